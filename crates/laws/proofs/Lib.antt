@@ -1,0 +1,9 @@
+pub mod Outcomes
+pub mod Lines
+pub mod Within
+pub mod Places
+pub mod Placing
+pub mod Room
+pub mod Unique
+pub mod Fill
+pub mod Parts
