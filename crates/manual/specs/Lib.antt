@@ -1,0 +1,9 @@
+pub mod Each
+pub mod Specifier
+pub mod Digits
+pub mod Takes
+pub mod Words
+pub mod WrittenEntries
+pub mod WrittenPairs
+pub mod SameEffect
+pub mod ModeBits
