@@ -1,0 +1,4 @@
+pub mod ClassLaws
+pub mod RowLaws
+pub mod JoinLaws
+pub mod StepLaws

@@ -1,0 +1,4 @@
+// Modes and targets for a program in Rust that holds them against the source's.
+mod classes;
+mod steps;
+mod targets;

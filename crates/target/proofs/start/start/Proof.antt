@@ -1,0 +1,137 @@
+use Rattle.target.proofs.StartLaws.{starting}
+use Rattle.target.proofs.start.start.Statement.{statement}
+use Rattle.target.proofs.start.start.Tie as tie
+use Rattle.target.proofs.start.start.Reads as reads
+use Rattle.target.proofs.start.start.Lts as lts
+use Rattle.mode.proofs.endian_to_number.Reads as endian-to-number-reads
+use Rattle.target.proofs.start.byte_at.Reads as byte-at-reads
+use Rattle.target.proofs.start.wide.Reads as wide-reads
+
+enum-told : tie.Need-enum-told
+enum-told c = search starting
+
+byte-at-requires : tie.Need-byte-at-requires
+byte-at-requires c κs = search starting
+
+mul-result : tie.Need-mul-result
+mul-result c = search starting
+
+mul-result-2 : tie.Need-mul-result-2
+mul-result-2 c = search starting
+
+sub-endian-to-number : tie.Need-sub-endian-to-number
+sub-endian-to-number c = search starting
+
+part-endian-to-number-start : tie.Need-part-endian-to-number-start
+part-endian-to-number-start c = search starting
+
+part-endian-to-number-end : tie.Need-part-endian-to-number-end
+part-endian-to-number-end c = search starting
+
+endian-to-number-requires : tie.Need-endian-to-number-requires
+endian-to-number-requires c κs = search starting
+
+wide-requires : tie.Need-wide-requires
+wide-requires c κs = search starting
+
+add-result : tie.Need-add-result
+add-result c = search starting
+
+enum-told-2 : tie.Need-enum-told-2
+enum-told-2 c = search starting
+
+byte-at-requires-2 : tie.Need-byte-at-requires-2
+byte-at-requires-2 c κs = search starting
+
+mul-result-3 : tie.Need-mul-result-3
+mul-result-3 c = search starting
+
+mul-result-4 : tie.Need-mul-result-4
+mul-result-4 c = search starting
+
+byte-at-requires-3 : tie.Need-byte-at-requires-3
+byte-at-requires-3 c κs = search starting
+
+add-result-2 : tie.Need-add-result-2
+add-result-2 c = search starting
+
+enum-told-3 : tie.Need-enum-told-3
+enum-told-3 c = search starting
+
+endian-to-number-requires-2 : tie.Need-endian-to-number-requires-2
+endian-to-number-requires-2 c κs = search starting
+
+wide-requires-2 : tie.Need-wide-requires-2
+wide-requires-2 c κs = search starting
+
+enum-told-4 : tie.Need-enum-told-4
+enum-told-4 c = search starting
+
+endian-to-number-requires-3 : tie.Need-endian-to-number-requires-3
+endian-to-number-requires-3 c κs = search starting
+
+wide-requires-3 : tie.Need-wide-requires-3
+wide-requires-3 c κs = search starting
+
+enum-told-5 : tie.Need-enum-told-5
+enum-told-5 c = search starting
+
+byte-at-requires-4 : tie.Need-byte-at-requires-4
+byte-at-requires-4 c κs = search starting
+
+enum-told-6 : tie.Need-enum-told-6
+enum-told-6 c = search starting
+
+returns : tie.Need-returns
+returns c = search starting
+
+returns-2 : tie.Need-returns-2
+returns-2 c = search starting
+
+returns-3 : tie.Need-returns-3
+returns-3 c = search starting
+
+returns-4 : tie.Need-returns-4
+returns-4 c = search starting
+
+returns-5 : tie.Need-returns-5
+returns-5 c = search starting
+
+returns-6 : tie.Need-returns-6
+returns-6 c = search starting
+
+pub start-spec : {M : Type 1} → statement M
+start-spec =
+    tie.close
+    (tie.spec
+    enum-told
+    byte-at-requires
+    mul-result
+    mul-result-2
+    sub-endian-to-number
+    part-endian-to-number-start
+    part-endian-to-number-end
+    endian-to-number-requires
+    wide-requires
+    add-result
+    enum-told-2
+    byte-at-requires-2
+    mul-result-3
+    mul-result-4
+    byte-at-requires-3
+    add-result-2
+    enum-told-3
+    endian-to-number-requires-2
+    wide-requires-2
+    enum-told-4
+    endian-to-number-requires-3
+    wide-requires-3
+    enum-told-5
+    byte-at-requires-4
+    enum-told-6
+    returns
+    returns-2
+    returns-3
+    returns-4
+    returns-5
+    returns-6)

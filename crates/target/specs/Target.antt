@@ -1,0 +1,39 @@
+-- The target by a class that is given, step by step as the code goes; at the mode's own class it is the definition's target.
+-- Assumes nothing.
+use Prim.Native.Nat.{ℕ, _%_, _*_, _/_, _^_}
+use mathlib.Core.Bool.{Bool, not, _&&_}
+use mathlib.Core.List.{List}
+use lib.Dec.{leb, ltb}
+use lib.ListN.{length}
+use Rattle.format.specs.Lists.{pick}
+use Rattle.format.specs.Mode.{Class, bit, sizeOf}
+use Rattle.format.specs.Outcome.{Outcome, fine, refused}
+use Rattle.format.specs.Target.{closing, high, inBlock, near, numberBit, signedNumber, signedStart, startOf, wrapAdd, wrapSub}
+use Rattle.target.specs.declared.answer.Answer.{Answer}
+use Rattle.target.specs.declared.answer.Answer.the-variants.{At, Refused}
+
+-- the target, or the refusal with its number and place
+abbrev pub told : Answer → Outcome ℕ
+told (At t) = fine t
+told (Refused n p) = refused n p
+
+-- x shifted left or right, the count modulo 64
+unfoldable pub shiftedLeft : ℕ → ℕ → ℕ
+shiftedLeft x k = x * 2 ^ (k % 64) % 2 ^ 64
+
+unfoldable pub shiftedRight : ℕ → ℕ → ℕ
+shiftedRight x k = x / 2 ^ (k % 64)
+
+-- what is left of t once the address is taken off, or what it is in its block
+unfoldable pub relativeOf : Class → (m t addr : ℕ) → ℕ
+relativeOf c m t addr = pick (bit 2 m) (wrapSub t (wrapAdd addr (pick (bit 0 m) 1 2))) (inBlock c t addr)
+
+unfoldable pub reachedBy : Class → Bool → (m n : ℕ) → List ℕ → (addr : ℕ) → ℕ
+reachedBy c big m n bs addr =
+    let signed = not (bit 4 m) in
+    let t = wrapSub (signedStart signed (high c) (startOf c big bs)) (signedNumber signed (numberBit c (bit 8 m)) n) in
+    near (closing c) (relativeOf c m t addr) addr
+
+-- 14, or the target
+unfoldable pub targetBy : Class → Bool → (m n : ℕ) → List ℕ → (addr : ℕ) → Outcome ℕ
+targetBy c big m n bs addr = pick (ltb m 2048 && ltb n (2 ^ 24) && leb (sizeOf c) (length bs)) (fine (reachedBy c big m n bs addr)) (refused 14 0)

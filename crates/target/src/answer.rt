@@ -1,0 +1,94 @@
+// The target of a fixup, or refusal 14.
+use crate::start::has;
+use crate::start::near;
+use crate::start::number_bit;
+use crate::start::relative;
+use crate::start::signed_number;
+use crate::start::signed_start;
+use crate::start::start;
+use crate::start::wide;
+use crate::word::sub64;
+use mode::JumpType;
+ghost use mathlib.Core.Path.{_≡_};
+ghost use Prim.Native.Nat.{_≤_, _%_};
+ghost use lib.ListN.{getD, length};
+ghost use Rattle.format.specs.Mode.{sizeOf};
+ghost use Rattle.format.specs.Target as defs;
+ghost use Rattle.mode.specs.Class.{classNamed, toldClass};
+ghost use Rattle.target.specs.Target.{reachedBy, targetBy, told};
+
+// The address that a fixup's bytes refer to, or a refusal with its number and place.
+pub enum Answer {
+    At(u64),
+    Refused { number: u32, place: u64 },
+}
+
+// The target by a class, where the bytes are there.
+fn reached(class: JumpType, mode: u32, big: bool, number: u32, address: u64, bytes: &[u8]) -> u64
+    requires { ⌜ sizeOf (toldClass class) ≤ length (now bytes) ⌝ }
+    ensures { λ r. ⌜ r ≡ reachedBy (toldClass class) big mode number (now (bytes .entry)) address ⌝ }
+{
+    let row = mode::row_of(class);
+    let signed = !has(mode, 4);
+    let tested = number_bit(class, has(mode, 8));
+    let s = signed_start(signed, row.high, start(class, big, bytes));
+    let n = signed_number(signed, tested, wide(number));
+    let t = relative(class, mode, sub64(s, n), address);
+    near(row.closing, t, address)
+}
+
+// The target by a class, or refusal 14.
+fn target_by(
+    class: JumpType,
+    mode: u32,
+    big: bool,
+    number: u32,
+    address: u64,
+    bytes: &[u8],
+) -> Answer
+    ensures { λ r. ⌜ told r ≡ targetBy (toldClass class) big mode number (now (bytes .entry)) address ⌝ }
+{
+    let size = mode::get_onsite_size(class);
+    if 2048 <= mode {
+        return Answer::Refused {
+            number: 14,
+            place: 0,
+        };
+    }
+    if 0x100_0000 <= number {
+        return Answer::Refused {
+            number: 14,
+            place: 0,
+        };
+    }
+    if bytes.len() < size {
+        return Answer::Refused {
+            number: 14,
+            place: 0,
+        };
+    }
+    Answer::At(reached(class, mode, big, number, address, bytes))
+}
+
+// The target by the class that a lent table has for the mode: for callers that ask often and make the table once.
+pub fn target_in(
+    table: &[u8; 2048],
+    mode: u32,
+    big: bool,
+    number: u32,
+    address: u64,
+    bytes: &[u8],
+) -> Answer
+    ensures { λ r. ⌜ told r ≡ targetBy (classNamed (getD (now (table .entry)) (mode % 2048) 0)) big mode number (now (bytes .entry)) address ⌝ }
+{
+    let class = mode::class_in(table, mode);
+    target_by(class, mode, big, number, address, bytes)
+}
+
+// The target of a fixup: the mode, the order, the number and the address of its bytes, and the bytes on site.
+pub fn target(mode: u32, big: bool, number: u32, address: u64, bytes: &[u8]) -> Answer
+    ensures { λ r. ⌜ told r ≡ defs.target big mode number (now (bytes .entry)) address ⌝ }
+{
+    let table = mode::class_table();
+    target_in(&table, mode, big, number, address, bytes)
+}

@@ -1,0 +1,8 @@
+// The target of a fixup, as ported.
+mod answer;
+mod start;
+mod word;
+
+pub use answer::Answer;
+pub use answer::target;
+pub use answer::target_in;
