@@ -1,0 +1,11 @@
+-- What the proofs share, by module of the code.
+-- Assumes nothing.
+pub mod Fields
+pub mod Areas
+pub mod Symbols
+pub mod Ignored
+pub mod Entries
+pub mod Content
+pub mod Modes
+pub mod Fragments
+pub mod Relocations

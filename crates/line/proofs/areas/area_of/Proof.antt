@@ -1,0 +1,68 @@
+use Rattle.line.proofs.Laws.Areas.{areas}
+use Rattle.line.proofs.areas.area_of.Statement.{statement}
+use Rattle.line.proofs.areas.area_of.Tie as tie
+
+slice-aggregate-field-at : tie.Need-slice-aggregate-field-at
+slice-aggregate-field-at c = search areas
+
+field-at-requires : tie.Need-field-at-requires
+field-at-requires c κs = search areas
+
+enum-known-z : tie.Need-enum-known-z
+enum-known-z c = search areas
+
+enum-told : tie.Need-enum-told
+enum-told c = search areas
+
+halted-requires : tie.Need-halted-requires
+halted-requires c κs = search areas
+
+returns : tie.Need-returns
+returns c = search areas
+
+slice-aggregate-field-at-2 : tie.Need-slice-aggregate-field-at-2
+slice-aggregate-field-at-2 c = search areas
+
+field-at-requires-2 : tie.Need-field-at-requires-2
+field-at-requires-2 c κs = search areas
+
+enum-known-g : tie.Need-enum-known-g
+enum-known-g c = search areas
+
+enum-told-2 : tie.Need-enum-told-2
+enum-told-2 c = search areas
+
+halted-requires-2 : tie.Need-halted-requires-2
+halted-requires-2 c κs = search areas
+
+returns-2 : tie.Need-returns-2
+returns-2 c = search areas
+
+addr-at-requires : tie.Need-addr-at-requires
+addr-at-requires c κs = search areas
+
+past-kind-requires : tie.Need-past-kind-requires
+past-kind-requires c κs = search areas
+
+returns-3 : tie.Need-returns-3
+returns-3 c = search areas
+
+pub area-of-spec : {M : Type 1} → statement M
+area-of-spec =
+    tie.close
+    (tie.spec
+    slice-aggregate-field-at
+    field-at-requires
+    enum-known-z
+    enum-told
+    halted-requires
+    returns
+    slice-aggregate-field-at-2
+    field-at-requires-2
+    enum-known-g
+    enum-told-2
+    halted-requires-2
+    returns-2
+    addr-at-requires
+    past-kind-requires
+    returns-3)

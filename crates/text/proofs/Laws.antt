@@ -1,0 +1,11 @@
+-- What the proofs share, by module of the code.
+-- Assumes nothing.
+pub mod Tests
+pub mod Kinds
+pub mod Words
+pub mod Numbers
+pub mod Many
+pub mod Lists
+pub mod Joined
+pub mod Lines
+pub mod Header

@@ -1,0 +1,51 @@
+-- Lists of bytes.
+-- Assumes nothing.
+use Prim.Native.Nat.{ℕ, _+_, _-_, _<_, _≤_}
+use mathlib.Core.Path.{_≡_, ap, _∙_}
+use mathlib.Core.List.{List, map-id}
+use lib.ListN.{length, set}
+use lib.Seq.{sets}
+use mir.Val.{Fits}
+use mir.Syntax.{w8}
+use borrow.Author.Needs.{needs}
+use Rattle.format.specs.Got.{is, isnt, many}
+use Rattle.format.specs.Number.{nextByte}
+use Rattle.text.specs.Told.{told}
+use Rattle.text.specs.Many.{BytesRead}
+use Rattle.text.specs.declared.Num.{Num}
+use Rattle.text.specs.declared.Num.the-variants.{Is, No}
+use Rattle.text.proofs.Laws.Numbers.{next-below}
+use Rattle.text.proofs.Laws.Many.{Counting, Column, count-start, column-start, count-end, count-stop, count-more, column-end, column-stop, column-more, put-past}
+
+pub byte-fits : (radix : ℕ) (s : List ℕ) (p : ℕ) {b : Num} {v q : ℕ} → b ≡ Is v q → told b ≡ nextByte radix s p → Fits w8 v
+byte-fits radix s p g e = record { fits = next-below radix s p g e }
+
+-- a byte stands as it is in its column
+abbrev pub self : ℕ → ℕ
+self b = b
+
+module _ (radix : ℕ) (s : List ℕ) (p : ℕ) {b : Num} (e : told b ≡ nextByte radix s p) where
+  next-no : {r x : ℕ} → b ≡ No r x → nextByte radix s p ≡ isnt r x
+  next-no g = rw (← e, g)
+
+  next-is : {v q : ℕ} → b ≡ Is v q → nextByte radix s p ≡ is v q
+  next-is g = rw (← e, g)
+
+module _ (radix : ℕ) (s : List ℕ) {at n p k : ℕ} (w : Counting (nextByte radix) s at n p k) {room left : List ℕ} (u : Column self (nextByte radix) s at room left n p k) where
+  pub bytes-end : k ≤ 0 → BytesRead radix s at (record { count = n; end = p }) room left
+  bytes-end h = record { ran = count-end w h; stored = column-end u h ∙ ap (sets room 0) (map-id (many (length s) (nextByte radix) s at .items)) }
+
+  module _ (h : 0 < k) {b : Num} (e : told b ≡ nextByte radix s p) where
+    pub bytes-stop : {r x : ℕ} → b ≡ No r x → BytesRead radix s at (record { count = n; end = p }) room left
+    bytes-stop g =
+        let i = next-no radix s p e g in
+        record { ran = count-stop w h i; stored = column-stop u h i ∙ ap (sets room 0) (map-id (many (length s) (nextByte radix) s at .items)) }
+
+module _ (radix : ℕ) {s : List ℕ} {at n p k : ℕ} {b : Num} (e : told b ≡ nextByte radix s p) {v q : ℕ} (g : b ≡ Is v q) (h : 0 < k) where
+  pub bytes-more : Counting (nextByte radix) s at n p k → Counting (nextByte radix) s at (n + 1) q (k - 1)
+  bytes-more w = count-more w h (next-is radix s p e g)
+
+  pub stored-more : {room left : List ℕ} → Column self (nextByte radix) s at room left n p k → {left' : List ℕ} → left' ≡ set left n v → Column self (nextByte radix) s at room left' (n + 1) q (k - 1)
+  stored-more u a = column-more u h (next-is radix s p e g) a
+
+pub ruleset listing = (needs, put-past, byte-fits, count-start, column-start, bytes-end, bytes-stop, bytes-more, stored-more)

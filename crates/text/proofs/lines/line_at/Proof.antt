@@ -1,0 +1,18 @@
+use Rattle.text.proofs.Laws.Lines.{lining}
+use Rattle.text.proofs.lines.line_at.Statement.{statement}
+use Rattle.text.proofs.lines.line_at.Tie as tie
+
+past-kind-requires : tie.Need-past-kind-requires
+past-kind-requires c κs = search lining
+
+line-ending-requires : tie.Need-line-ending-requires
+line-ending-requires c κs = search lining
+
+add-t6 : tie.Need-add-t6
+add-t6 c = search lining
+
+returns : tie.Need-returns
+returns c = search lining
+
+pub line-at-spec : {M : Type 1} → statement M
+line-at-spec = tie.close (tie.spec past-kind-requires line-ending-requires add-t6 returns)

@@ -1,0 +1,4 @@
+pub mod Told
+pub mod Many
+pub mod Lines
+pub mod Steps

@@ -1,0 +1,73 @@
+// Numbers that stand as two, three or four bytes: addresses and indexes, in both orders.
+ghost use mathlib.Core.Path.{_≡_};
+ghost use Prim.Native.Nat.{_*_, _<_, _≤_};
+ghost use Rattle.format.specs.Number.{joined as joinedAt};
+ghost use Rattle.format.specs.Pairs.{index};
+ghost use Rattle.text.specs.Told.{told, moreOf};
+ghost use Rattle.text.specs.Steps.{joinStep};
+use crate::Num;
+use crate::Width;
+use crate::numbers::next_byte;
+use crate::numbers::parse_byte;
+
+// How many bytes an address has behind its first.
+fn more_bytes(w: Width) -> usize
+    ensures { λ r. ⌜ (r ≡ moreOf w) × (r ≤ 3) ⌝ }
+{
+    match w {
+        Width::Two => 1,
+        Width::Three => 2,
+        Width::Four => 3,
+    }
+}
+
+// One byte joined behind a value; scale is its worth where the lowest is first.
+fn join_step(big: bool, v: u64, scale: u64, b: u64) -> u64
+    requires { ⌜ (v < scale) × (scale ≤ 16777216) × (b < 256) ⌝ }
+    ensures { λ r. ⌜ (r ≡ joinStep big v scale b) × (r < scale * 256) ⌝ }
+{
+    if big { v * 256 + b } else { v + scale * b }
+}
+
+// n + 1 bytes separated by blanks, joined into one number.
+fn joined_of(t: &[u8], at: usize, radix: u8, big: bool, n: usize) -> Num
+    requires { ⌜ n ≤ 3 ⌝ }
+    ensures { λ r. ⌜ told r ≡ joinedAt radix big n (now (t .entry)) at ⌝ }
+{
+    let first = parse_byte(t, at, radix);
+    let Num::Is { value, next } = first else {
+        return first;
+    };
+    let mut v = value as u64;
+    let mut scale: u64 = 256;
+    let mut p = next;
+    let mut k = n;
+    while 0 < k {
+        let b = next_byte(t, p, radix);
+        let Num::Is { value: d, next: q } = b else {
+            return b;
+        };
+        v = join_step(big, v, scale, d as u64);
+        scale = scale * 256;
+        p = q;
+        k -= 1;
+    }
+    Num::Is {
+        value: v as u32,
+        next: p,
+    }
+}
+
+// An address: as many bytes as the header says.
+pub fn parse_multi_number(t: &[u8], at: usize, radix: u8, big: bool, w: Width) -> Num
+    ensures { λ r. ⌜ told r ≡ joinedAt radix big (moreOf w) (now (t .entry)) at ⌝ }
+{
+    joined_of(t, at, radix, big, more_bytes(w))
+}
+
+// An index: two bytes.
+pub fn parse_area_index(t: &[u8], at: usize, radix: u8, big: bool) -> Num
+    ensures { λ r. ⌜ told r ≡ index radix big (now (t .entry)) at ⌝ }
+{
+    joined_of(t, at, radix, big, 1)
+}
