@@ -16,19 +16,19 @@ held : (a b : Held) → a .areas ≡ b .areas → a .symbols ≡ b .symbols → 
 held a b p q r s t = λ i. record { areas = p i; symbols = q i; values = r i; masks = s i; fixups = t i }
 
 -- no second answer fits
-pub unique : (ended : Bool) (text : List ℕ) (old : Held) (a₁ a₂ : Answer) (n₁ n₂ : Held)
+pub no-second-answer-fits : (ended : Bool) (text : List ℕ) (old : Held) (a₁ a₂ : Answer) (n₁ n₂ : Held)
     → Meets ended text old a₁ n₁ → Meets ended text old a₂ n₂ → (a₁ ≡ a₂) × (n₁ ≡ n₂)
-unique ended text old a₁ a₂ n₁ n₂ p q = (
+no-second-answer-fits ended text old a₁ a₂ n₁ n₂ p q = (
   p .says ∙ sym (q .says),
   held n₁ n₂ (p .areas ∙ sym (q .areas)) (p .symbols ∙ sym (q .symbols)) (p .values ∙ sym (q .values)) (p .masks ∙ sym (q .masks)) (p .fixups ∙ sym (q .fixups)),
 )
 
 -- the same for an answer of the code's own type, where a definition gives the paper's answer for each of its cases and no two have the same
-pub unique-through : {D : Type 0} (paper : D → Answer) → ((x y : D) → paper x ≡ paper y → x ≡ y)
+pub no-second-answer-fits-through : {D : Type 0} (paper : D → Answer) → ((x y : D) → paper x ≡ paper y → x ≡ y)
     → (ended : Bool) (text : List ℕ) (old : Held) (x y : D) (n₁ n₂ : Held)
     → Meets ended text old (paper x) n₁ → Meets ended text old (paper y) n₂ → (x ≡ y) × (n₁ ≡ n₂)
-unique-through paper inj ended text old x y n₁ n₂ p q =
-    let k = unique ended text old (paper x) (paper y) n₁ n₂ p q in
+no-second-answer-fits-through paper inj ended text old x y n₁ n₂ p q =
+    let k = no-second-answer-fits ended text old (paper x) (paper y) n₁ n₂ p q in
     (inj x y (k .0), k .1)
 
 -- a buffer keeps its length
@@ -50,7 +50,7 @@ pub record Met (ended : Bool) (text : List ℕ) (old : Held) : Type 0 where
 
 pub met : (ended : Bool) (text : List ℕ) (old : Held) → Met ended text old
 unfolding lengths
-met ended text old =
+an-answer-fits ended text old =
     let r : Reading = reading ended (lengths old) text in
     let h : HasRoom (lengths old) r = has-room ended (lengths old) text in
     record {
@@ -73,9 +73,9 @@ met ended text old =
     }
 
 -- a refusal changes no buffer
-pub refused-same : (ended : Bool) (text : List ℕ) (old new : Held) (a : Answer) (n p : ℕ)
+pub a-refusal-changes-no-buffer : (ended : Bool) (text : List ℕ) (old new : Held) (a : Answer) (n p : ℕ)
     → read ended (lengths old) text ≡ refused n p → Meets ended text old a new → new ≡ old
 unfolding reading over
-refused-same ended text old new a n p h m =
+a-refusal-changes-no-buffer ended text old new a n p h m =
     held new old
     (rw h at (m .areas)) (rw h at (m .symbols)) (rw h at (m .values)) (rw h at (m .masks)) (rw h at (m .fixups))

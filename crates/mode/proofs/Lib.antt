@@ -2,3 +2,4 @@ pub mod ClassLaws
 pub mod RowLaws
 pub mod JoinLaws
 pub mod StepLaws
+pub mod Unique
