@@ -48,7 +48,7 @@ pub record Met (ended : Bool) (text : List ℕ) (old : Held) : Type 0 where
   pub meets : Meets ended text old answer new
   pub same-lengths : lengths new ≡ lengths old
 
-pub met : (ended : Bool) (text : List ℕ) (old : Held) → Met ended text old
+pub an-answer-fits : (ended : Bool) (text : List ℕ) (old : Held) → Met ended text old
 unfolding lengths
 an-answer-fits ended text old =
     let r : Reading = reading ended (lengths old) text in
