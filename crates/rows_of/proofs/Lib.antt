@@ -1,0 +1,4 @@
+pub mod Areas
+pub mod Cells
+pub mod Ranges
+pub mod Unique

@@ -1,0 +1,3 @@
+pub mod Parts
+pub mod Ranges
+pub mod Told
