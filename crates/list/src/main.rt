@@ -1,0 +1,4 @@
+// Lists object modules by the ended reading.
+fn main() {
+    listing::run(true)
+}

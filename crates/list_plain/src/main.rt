@@ -1,0 +1,4 @@
+// Lists object modules by the plain reading.
+fn main() {
+    listing::run(false)
+}

@@ -1,0 +1,97 @@
+// What --help prints, and what an option prints that is not known.
+use libc::STDERR_FILENO;
+use libc::STDOUT_FILENO;
+
+// How the program is called, and which reading it is.
+fn usage(ended: bool) -> bool {
+    if ended {
+        return io::write_all(
+            STDOUT_FILENO,
+            b"usage: list [FILE]...\n\
+              Lists object modules by the ended reading: a line counts only if its line end stands behind it.\n",
+        );
+    }
+    io::write_all(
+        STDOUT_FILENO,
+        b"usage: list_plain [FILE]...\n\
+          Lists object modules by the plain reading: what is read counts, up to the first byte that cannot be.\n",
+    )
+}
+
+// What a listing's lines are.
+fn lines() -> bool {
+    io::write_all(
+        STDOUT_FILENO,
+        b"Each FILE is a module, listed under a line with its name; without FILE one module comes from standard input.\n\
+          \n\
+          areas N symbols N lines N   how many A and S lines, and T and R pairs\n\
+          finished, stopped at PLACE  no byte is left, or the place of the first that is\n\
+          area INDEX id ID ..         an area with code, relocatable or absolute with its base, and its size\n\
+          POSITION VALUE/MASK ..      its bytes, eight a row; mask FF: known, 00: not known\n\
+          sym NAME VALUE              a symbol behind the area's line\n\
+          fix POSITION SIZE ..        bytes to be filled in: mode, outside symbol (pub) or area's id, value, number\n\
+          refused NUMBER at PLACE     nothing is listed\n\
+          \n\
+          Counts, ids, sizes and places are decimal, the rest is hex. Places count bytes from 0.\n",
+    )
+}
+
+// What the refusals mean.
+fn refusals() -> bool {
+    io::write_all(
+        STDOUT_FILENO,
+        b"Refusals:\n   \
+             1  a buffer is too short, which does not happen here\n   \
+             2  the text has more than 65,536 bytes\n   \
+             3  a byte is above 127\n   \
+             4  there is no header, such as XH3\n   \
+             5  more than 64 areas\n   \
+             6  more than 1,024 symbols\n   \
+             7  a T line with more than 256 bytes of content\n   \
+             8  an R line with more than 64 fragments\n   \
+             9  the areas with code have more than 65,536 bytes together\n  \
+            10  a fragment runs past its T line\n  \
+            11  a fragment names a symbol that is not there\n  \
+            12  a fixup has no number\n  \
+            13  more than 1,024 fixups\n",
+    )
+}
+
+// The whole help.
+pub(crate) fn help(ended: bool) {
+    if usage(ended) && lines() && refusals() {
+        return;
+    }
+    os::fail(b"standard output")
+}
+
+// How the program is called, on standard error.
+fn tell_usage(ended: bool) {
+    if ended {
+        io::write_all(STDERR_FILENO, b"usage: list [FILE]..., or list --help\n");
+    } else {
+        io::write_all(
+            STDERR_FILENO,
+            b"usage: list_plain [FILE]..., or list_plain --help\n",
+        );
+    }
+}
+
+// Tells how an option begins that is longer than the buffer.
+fn tell_start(word: &[u8; 64]) {
+    io::write_all(STDERR_FILENO, word);
+    io::write_all(STDERR_FILENO, b"..");
+}
+
+// Tells of an option that is not known.
+pub(crate) fn tell_unknown(ended: bool, i: usize) {
+    let mut word = [0u8; 64];
+    let n = os::arg(i, &mut word);
+    if n == 0 {
+        tell_start(&word);
+    } else {
+        io::write_all(STDERR_FILENO, &word[..n]);
+    }
+    io::write_all(STDERR_FILENO, b": unknown option\n");
+    tell_usage(ended)
+}

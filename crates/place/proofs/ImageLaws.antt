@@ -1,0 +1,102 @@
+-- What the proofs of the walk for the images share: a law for each return, and the loop's invariant.
+-- Assumes nothing.
+use Prim.Native.Nat.{ℕ, zero, suc, _+_, _-_, _≤_, _<_}
+use mathlib.Core.Path.{_≡_, refl, sym, ap, _∙_}
+use mathlib.Core.Bool.{Bool, true, false}
+use mathlib.Core.List.{List}
+use native.Mathlib.Numerals.{add-one}
+use native.Mathlib.Omega.{arith}
+use mir.Val.{Fits}
+use mir.Syntax.{w32, w64}
+use lib.Dec.{eqb, ltb}
+use lib.ListN.{length, getD, set}
+use borrow.Author.Needs.{needs}
+use borrow.Author.Tests.{lt-ltb, le-ltb, eq-eqb, ne-eqb}
+use Rattle.format.specs.Lists.{pick}
+use Rattle.place.specs.declared.site.Site.{Site}
+use Rattle.place.specs.Walk.{Ready}
+use Rattle.place.specs.Image.{imageWalk, imageOf, Wrote, Imaged}
+
+-- `write_entry`: t is the kept flag that it read
+module _ (wv wm wk vs ms : List ℕ) (start p : ℕ) {e i t : ℕ} (ei : i ≡ e) (et : t ≡ getD wk i 0) where
+  pub wrote : t ≡ 1 → {q at v m : ℕ} → q ≡ p → at ≡ start + q → v ≡ getD wv i 0 → m ≡ getD wm i 0 → {vs′ ms′ : List ℕ} → vs′ ≡ set vs at v → ms′ ≡ set ms at m
+      → Wrote (getD wk e 0) (start + p) (getD wv e 0) (getD wm e 0) vs ms 1 vs′ ms′
+  wrote h eq ea ev em p₁ p₂ =
+      let b : eqb (getD wk e 0) 1 ≡ true = rw (← ei, ← et) (eq-eqb t 1 h) in
+      record { grows = rw b; values = rw (b, ← eq, ← ea, ← ei, ← ev) p₁; masks = rw (b, ← eq, ← ea, ← ei, ← em) p₂ }
+
+  pub wrote-none : (t ≡ 1 → ⊥) → Wrote (getD wk e 0) (start + p) (getD wv e 0) (getD wm e 0) vs ms 0 vs ms
+  wrote-none h =
+      let b : eqb (getD wk e 0) 1 ≡ false = rw (← ei, ← et) (ne-eqb t 1 h) in
+      record { grows = rw b; values = rw b; masks = rw b }
+
+pub at-fits : (start p : ℕ) {q : ℕ} → start + p < 65536 → q ≡ p → Fits w64 (start + q)
+at-fits start p h e = record { fits = omega arith }
+
+pub ruleset writing = (needs, wrote, wrote-none, at-fits)
+
+-- the entries up to e are passed, and the position is p
+pub record Imaging (s : Site) (wv wm wk vs ms : List ℕ) (n : ℕ) (us os : List ℕ) (e p : ℕ) : Type 0 where
+  pub whole : n ≡ s .line .width + s .line .bytes
+  pub inside : e ≤ n
+  pub values : imageOf s wv wk vs ≡ imageWalk (s .start) (s .size) wv wk (n - e) e p us
+  pub masks : imageOf s wm wk ms ≡ imageWalk (s .start) (s .size) wm wk (n - e) e p os
+  pub values-long : length us ≡ length vs
+  pub masks-long : length os ≡ length ms
+  pub ready : Ready s
+
+pub image-start : (s : Site) (wv wm wk vs ms : List ℕ) → Ready s → {n : ℕ} → n ≡ s .line .width + s .line .bytes → Imaging s wv wm wk vs ms n vs ms 0 (s .line .address)
+unfolding imageOf
+image-start s wv wm wk vs ms r {n} e = let z : n - 0 ≡ s .line .width + s .line .bytes = omega arith in record {
+  whole = e;
+  inside = omega arith;
+  values = rw z;
+  masks = rw z;
+  values-long = refl;
+  masks-long = refl;
+  ready = r;
+}
+
+out-of : (start size : ℕ) (ws keeps : List ℕ) (m e p : ℕ) (image : List ℕ) → size ≤ p → imageWalk start size ws keeps m e p image ≡ image
+unfolding imageWalk
+out-of start size ws keeps zero e p image h = refl
+out-of start size ws keeps (suc m) e p image h = rw (le-ltb p size h)
+
+at-most : (b : Bool) → pick b 1 0 ≤ 1
+at-most true = omega arith
+at-most false = omega arith
+
+module _ {s : Site} {wv wm wk vs ms : List ℕ} {n : ℕ} {us os : List ℕ} {e p : ℕ} (w : Imaging s wv wm wk vs ms n us os e p) where
+  pub image-end : n ≤ e → Imaged s wv wm wk vs ms us os
+  unfolding imageWalk
+  image-end h = let z : n - e ≡ 0 = omega arith in record { values = sym (w .values ∙ rw z); masks = sym (w .masks ∙ rw z) }
+
+  pub image-out : s .size ≤ p → Imaged s wv wm wk vs ms us os
+  image-out l = record {
+    values = sym (w .values ∙ out-of (s .start) (s .size) wv wk (n - e) e p us l);
+    masks = sym (w .masks ∙ out-of (s .start) (s .size) wm wk (n - e) e p os l);
+  }
+
+  pub image-room : p < s .size → s .start + p < 65536
+  image-room h = omega (arith, w .ready .inside)
+
+  pub image-narrow : e < n → Fits w32 (e + 1)
+  image-narrow h = record { fits = omega (arith, w .whole, w .ready .line .address, w .ready .line .content) }
+
+  module _ (l : p < s .size) {us′ os′ : List ℕ} {y : ℕ} (o : Wrote (getD wk e 0) (s .start + p) (getD wv e 0) (getD wm e 0) us os y us′ os′) where
+    pub image-grows : Fits w32 (p + y)
+    image-grows = record { fits = omega (arith, w .ready .inside, o .grows, at-most (eqb (getD wk e 0) 1)) }
+
+    pub image-more : e < n → length us′ ≡ length us → length os′ ≡ length os → Imaging s wv wm wk vs ms n us′ os′ (e + 1) (p + y)
+    unfolding imageWalk
+    image-more h lu lo = let z : n - e ≡ suc (n - suc e) = omega arith in record {
+      whole = w .whole;
+      inside = omega arith;
+      values = w .values ∙ (ap (λ (k : ℕ). imageWalk (s .start) (s .size) wv wk k e p us) z ∙ rw (lt-ltb p (s .size) l, add-one, o .grows, o .values));
+      masks = w .masks ∙ (ap (λ (k : ℕ). imageWalk (s .start) (s .size) wm wk k e p os) z ∙ rw (lt-ltb p (s .size) l, add-one, o .grows, o .masks));
+      values-long = lu ∙ w .values-long;
+      masks-long = lo ∙ w .masks-long;
+      ready = w .ready;
+    }
+
+pub ruleset imaging = (needs, image-start, image-end, image-out, image-room, image-narrow, image-grows, image-more)

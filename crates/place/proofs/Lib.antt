@@ -1,0 +1,12 @@
+pub mod NamedLaws
+pub mod WorkLaws
+pub mod ReferenceLaws
+pub mod CheckLaws
+pub mod RowLaws
+pub mod WalkLaws
+pub mod PassLaws
+pub mod ImageLaws
+pub mod SiteLaws
+pub mod PairLaws
+pub mod GroupLaws
+pub mod Use

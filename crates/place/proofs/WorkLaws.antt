@@ -1,0 +1,200 @@
+-- What the proofs of the work line share: a law for each return, and the loop's invariant.
+-- Assumes nothing.
+use Prim.Native.Nat.{ℕ, zero, suc, _+_, _-_, _/_, _%_, _≤_, _<_}
+use mathlib.Core.Path.{_≡_, refl, sym, ap, _∙_}
+use mathlib.Core.Bool.{Bool, true, false}
+use mathlib.Core.List.{List, [], _∷_, _++_}
+use mathlib.Core.Option.{Option, none, some}
+use native.Mathlib.Numerals.{add-one}
+use native.Mathlib.Omega.{arith}
+use lib.Dec.{eqb, leb, lit≤}
+use lib.ListN.{length, take, drop, getD, set, replicate, length-drop, length-replicate}
+use lib.Seq.{sets, sets-eq, take-suc-set, length-take-le}
+use borrow.Author.Needs.{needs}
+use borrow.Author.Tests.{lt-ltb, le-ltb, le-leb, lt-leb}
+use borrow.Rule.Slice.PartMut.{putMid}
+use mir.Val.{Fits}
+use mir.Syntax.{w64}
+use Rattle.format.specs.Lists.{pick}
+use Rattle.format.specs.Pairs.{Fragment}
+use Rattle.format.specs.Mode.{Class, Addr19, Addr11, Addr24, Addr16, Byte, Other, classOf, bit, touched, touchedOf}
+use Rattle.format.specs.ModeStep.{numberBy, valuesBy, masksBy, keepsBy, stepNumber, stepValues, stepMasks, stepKeeps}
+use Rattle.format.specs.Outcome.{Outcome, fine, refused, andThen}
+use Rattle.format.specs.WorkLine.{padded, beyond, stepAt, partly}
+use Rattle.format.specs.WorkLine as defs
+use Rattle.laws.specs.Rows.{from}
+use Rattle.laws.proofs.Parts.{part-end, put-end}
+use Rattle.mode.specs.declared.step.Step.{Step}
+use Rattle.mode.specs.declared.step.Step.the-variants.{Number, Short}
+use Rattle.mode.specs.Step as modes
+use Rattle.place.specs.declared.pair.Line.{Line}
+use Rattle.place.specs.declared.work_line.Worked.{Worked}
+use Rattle.place.specs.declared.work_line.Worked.the-variants.{Beyond, Numbers}
+use Rattle.place.specs.Columns.{fragmentAt, fragmentsIn}
+use Rattle.place.specs.Work as work
+use Rattle.place.specs.Work.{lineOf, turnOf, turns, allTurns, told, madeBy, Applied, Turned, Whole}
+use Rattle.place.proofs.NamedLaws.{named-at}
+
+-- ------------------------------------------------------------------ the content
+
+zeros-take : (a n : ℕ) → a ≤ n → take {A = ℕ} a (replicate n 0) ≡ replicate a 0
+zeros-take zero n h = refl
+zeros-take (suc a) zero h = absurd (omega arith)
+zeros-take (suc a) (suc n) h = ap (_∷_ 0) (zeros-take a n (omega arith))
+
+zeros-drop : (a n : ℕ) → drop {A = ℕ} a (replicate n 0) ≡ replicate (n - a) 0
+zeros-drop zero n = let e : n - 0 ≡ n = omega arith in rw e
+zeros-drop (suc a) zero = let e : 0 - suc a ≡ 0 = omega arith in rw e
+zeros-drop (suc a) (suc n) = let e : suc n - suc a ≡ n - a = omega arith in rw e (zeros-drop a n)
+
+stored : (a n : ℕ) → a + n ≤ 260 → (d vs : List ℕ) → d ≡ replicate 260 0 → length vs ≡ n → sets d a vs ≡ padded a n vs
+unfolding padded
+stored a n h d vs z l =
+    sets-eq vs d a (rw (z, length-replicate, l) h) ∙ rw (l, z, zeros-take a 260 (omega arith), zeros-drop (a + n) 260)
+
+module _ {l : Line} (s : work.Short l) {d d′ : List ℕ} (z : d ≡ replicate 260 0) where
+  pub laid : (bs : List ℕ) → l .bytes ≤ length bs → d′ ≡ sets d (l .width) (take (l .bytes) bs) → d′ ≡ padded (l .width) (l .bytes) (take (l .bytes) bs)
+  laid bs h e = e ∙ stored (l .width) (l .bytes) (omega (arith, s .address, s .content)) d (take (l .bytes) bs) z (length-take-le (l .bytes) bs h)
+
+  pub full : (v : ℕ) → d′ ≡ sets d (l .width) (replicate (l .bytes) v) → d′ ≡ padded (l .width) (l .bytes) (replicate (l .bytes) v)
+  full v e = e ∙ stored (l .width) (l .bytes) (omega (arith, s .address, s .content)) d (replicate (l .bytes) v) z (length-replicate (l .bytes) v)
+
+pub ruleset content = (needs, laid, full)
+
+-- ------------------------------------------------------------------ a fragment
+
+-- `apply`
+pub on-parts : {c : Class} {three big : Bool} {entry : ℕ} {r : Step} (wv wm wk : List ℕ) {vs′ ms′ ks′ : List ℕ}
+    → entry + touchedOf c three ≤ length wv → entry + touchedOf c three ≤ length wm → entry + touchedOf c three ≤ length wk
+    → modes.Modified c three big r (take (length wv - entry) (drop entry wv)) (take (length wm - entry) (drop entry wm)) (take (length wk - entry) (drop entry wk)) vs′ ms′ ks′
+    → Applied c three big entry r wv wm wk (putMid entry (length wv - entry) wv vs′) (putMid entry (length wm - entry) wm ms′) (putMid entry (length wk - entry) wk ks′)
+unfolding partly modes.fits
+on-parts {c} {three} {big} {entry} wv wm wk hv hm hk q =
+    let n = touchedOf c three in
+    let part : (xs : List ℕ) → entry + n ≤ length xs → leb n (length (take (length xs - entry) (drop entry xs))) ≡ true =
+    λ xs h. le-leb n (length (take (length xs - entry) (drop entry xs))) (simp (part-end entry xs, length-drop) (omega arith)) in
+    record {
+      number = rw (part wv hv, part wm hm, part wk hk, part-end) at (q .number);
+      values = put-end (valuesBy c three) entry wv _ (omega arith) (rw (part wv hv, part wm hm, part wk hk) at (q .values));
+      masks = put-end (masksBy c three) entry wm _ (omega arith) (rw (part wv hv, part wm hm, part wk hk) at (q .masks));
+      keeps = put-end (keepsBy c three) entry wk _ (omega arith) (rw (part wv hv, part wm hm, part wk hk) at (q .keeps));
+    }
+
+pub ruleset parts = (needs, on-parts)
+
+-- `push`
+pub pushed : (ns : List ℕ) (m x : ℕ) → m < length ns → {ns′ : List ℕ} → ns′ ≡ set ns m x → take (m + 1) ns′ ≡ take m ns ++ x ∷ []
+pushed ns m x h e = rw (e, add-one, take-suc-set ns m x h)
+
+-- `turn`
+pub turn-low : (l : Line) (ms es : List ℕ) (i : ℕ) (wv wm wk ns : List ℕ) (m : ℕ) {e entry : ℕ} → e ≡ getD es i 0 → entry ≡ e → entry < l .width
+    → Turned l ms es i wv wm wk ns m (Numbers m) wv wm wk ns
+unfolding turnOf beyond fragmentAt
+turn-low l ms es i wv wm wk ns m {entry = entry} ee ew h = record { says = λ xs place. rw (← ee, ← ew, lt-leb (l .width) entry h); few = omega arith }
+
+pub turn-on : (l : Line) (ms es : List ℕ) (i : ℕ) {e entry : ℕ} → e ≡ getD es i 0 → entry ≡ e → l .width ≤ entry → {wv wm wk ns : List ℕ} {m : ℕ} {r : Worked} {wv′ wm′ wk′ ns′ : List ℕ}
+    → ((zs : List ℕ) → entry ≡ getD zs i 0 → l .width ≤ entry → Turned l ms zs i wv wm wk ns m r wv′ wm′ wk′ ns′) → Turned l ms es i wv wm wk ns m r wv′ wm′ wk′ ns′
+turn-on l ms es i ee ew h f = f es (ew ∙ ee) h
+
+pub wide-fits : {e entry : ℕ} → entry ≡ e → e < 4294967296 → entry < 4294967296
+wide-fits ee h = omega arith
+
+pub ruleset turning = (needs, turn-low, turn-on, wide-fits)
+
+-- `work_in`
+module _ (l : Line) (ms : List ℕ) (i entry : ℕ) (wv wm wk ns : List ℕ) (m : ℕ)
+    {k : Class} (ek : k ≡ classOf (getD ms i 0)) {mode : ℕ} (em : mode ≡ getD ms i 0) {n : ℕ} (en : n ≡ touchedOf k (eqb (mode / 256 % 2) 1)) where
+  touched-is : (es xs : List ℕ) → touched (fragmentAt ms es xs i .mode) ≡ n
+  unfolding touched bit fragmentAt
+  touched-is es xs = rw (en, ek, em)
+
+  pub turn-beyond : l .width + l .bytes < entry + n → {wv′ wm′ wk′ ns′ : List ℕ} → (es : List ℕ) → entry ≡ getD es i 0 → l .width ≤ entry → Turned l ms es i wv wm wk ns m Beyond wv′ wm′ wk′ ns′
+  unfolding turnOf beyond fragmentAt
+  turn-beyond g es ee h = record {
+    says = λ xs place. rw (← ee, touched-is es xs, le-leb (l .width) entry h, lt-ltb (l .width + l .bytes) (entry + n) g);
+    few = omega arith;
+  }
+
+  module _ (g : entry + n ≤ l .width + l .bytes) where
+    pub has-room : work.Short l → (xs : List ℕ) → 260 ≤ length xs → entry + touchedOf k (eqb (mode / 256 % 2) 1) ≤ length xs
+    has-room s xs q = omega (arith, s .address, s .content)
+
+    module _ {r : Step} {wv′ wm′ wk′ : List ℕ} (p : Applied k (eqb (mode / 256 % 2) 1) (l .big) entry r wv wm wk wv′ wm′ wk′) where
+      pub turn-never : r ≡ Short → {wv″ wm″ wk″ ns″ : List ℕ} → (es : List ℕ) → entry ≡ getD es i 0 → l .width ≤ entry → Turned l ms es i wv wm wk ns m Beyond wv″ wm″ wk″ ns″
+      turn-never s es ee h = let z : none ≡ some (numberBy (l .big) k (drop entry wv)) = rw s at (p .number) in let y : _≡_ {A = ℕ} 0 1 = cc in absurd (omega arith)
+
+      pub turn-steps : {x : ℕ} → r ≡ Number x → {y : ℕ} → y ≡ m + 1 → {ns′ : List ℕ} → take (m + 1) ns′ ≡ take m ns ++ x ∷ []
+          → (es : List ℕ) → entry ≡ getD es i 0 → l .width ≤ entry → Turned l ms es i wv wm wk ns m (Numbers y) wv′ wm′ wk′ ns′
+      unfolding turnOf beyond stepAt lineOf stepNumber stepValues stepMasks stepKeeps bit fragmentAt
+      turn-steps {x} s er q es ee h =
+          let nx : some x ≡ some (numberBy (l .big) k (drop entry wv)) = rw s at (p .number) in
+          let ex : x ≡ numberBy (l .big) k (drop entry wv) = cc in
+          record {
+            says = λ xs place. rw (er, ← ee, touched-is es xs, le-leb (l .width) entry h, le-ltb (l .width + l .bytes) (entry + n) g, q, ex, p .values, p .masks, p .keeps, ek, em);
+            few = rw er (omega arith);
+          }
+
+pub one-more : (m : ℕ) → m < 64 → Fits w64 (m + 1)
+one-more m h = record { fits = omega arith }
+
+few-touched : (k : Class) (three : Bool) → touchedOf k three ≤ 4
+few-touched Addr19 b = lit≤ tt
+few-touched Addr11 b = lit≤ tt
+few-touched Addr24 b = lit≤ tt
+few-touched Addr16 b = lit≤ tt
+few-touched Byte b = lit≤ tt
+few-touched Other true = lit≤ tt
+few-touched Other false = lit≤ tt
+
+pub end-fits : (k : Class) (three : Bool) {n : ℕ} → n ≡ touchedOf k three → {entry : ℕ} → entry < 4294967296 → Fits w64 (entry + n)
+end-fits k three en h = record { fits = omega (arith, few-touched k three) }
+
+pub ruleset stepping = (needs, pushed, one-more, end-fits, turn-beyond, has-room, turn-never, turn-steps)
+
+-- ------------------------------------------------------------------ all fragments
+
+-- i fragments are worked in, and m numbers made
+pub record Working (l : Line) (ms es : List ℕ) (d : defs.Worked) (long : ℕ) (wv wm wk ns : List ℕ) (m i : ℕ) : Type 0 where
+  pub kept : length ns ≡ long
+  pub within : i ≤ l .fragments
+  pub few : m ≤ i
+  pub rest : (xs : List ℕ) (place : ℕ) → turns (l .width) (l .big) (l .bytes) place (fragmentsIn ms es xs (l .fragments)) d
+      ≡ turns (l .width) (l .big) (l .bytes) place (from (fragmentAt ms es xs) i (l .fragments - i)) (lineOf wv wm wk ns m)
+
+pub work-start : (l : Line) (ms es wv wm wk ns : List ℕ) → Working l ms es (lineOf wv wm wk ns 0) (length ns) wv wm wk ns 0 0
+unfolding fragmentsIn
+work-start l ms es wv wm wk ns = record { kept = refl; within = omega arith; few = omega arith; rest = λ xs place. let e : l .fragments - 0 ≡ l .fragments = omega arith in rw e }
+
+module _ {l : Line} {ms es : List ℕ} {d : defs.Worked} {long : ℕ} {wv wm wk ns : List ℕ} {m i : ℕ} (w : Working l ms es d long wv wm wk ns m i) where
+  pub work-end : l .fragments ≤ i → Whole (allTurns l ms es d) (l .fragments) (Numbers m) wv wm wk ns
+  unfolding allTurns turns from
+  work-end h = record { says = λ xs place. let z : l .fragments - i ≡ 0 = omega arith in sym (w .rest xs place ∙ rw z); few = omega (arith, w .few, w .within) }
+
+  module _ (h : i < l .fragments) where
+    pub work-room : 64 ≤ long → work.Short l → m < length ns
+    work-room r s = omega (arith, w .kept, w .few, s .fragments)
+
+    pub work-few : work.Short l → m < 64
+    work-few s = omega (arith, w .few, s .fragments)
+
+    module _ {wv′ wm′ wk′ ns′ : List ℕ} {r : Worked} (t : Turned l ms es i wv wm wk ns m r wv′ wm′ wk′ ns′) where
+      next : (xs : List ℕ) (place : ℕ) → turns (l .width) (l .big) (l .bytes) place (fragmentsIn ms es xs (l .fragments)) d
+          ≡ andThen (told place r wv′ wm′ wk′ ns′) (λ e. turns (l .width) (l .big) (l .bytes) place (from (fragmentAt ms es xs) (suc i) (l .fragments - suc i)) e)
+      unfolding turns from
+      next xs place =
+          let z : l .fragments - i ≡ suc (l .fragments - suc i) = omega arith in
+          w .rest xs place ∙ (ap (λ (k : ℕ). turns (l .width) (l .big) (l .bytes) place (from (fragmentAt ms es xs) i k) (lineOf wv wm wk ns m)) z ∙ rw (t .says xs place))
+
+      pub work-beyond : r ≡ Beyond → {us os ls ps : List ℕ} → Whole (allTurns l ms es d) (l .fragments) Beyond us os ls ps
+      unfolding allTurns
+      work-beyond g = record { says = λ xs place. sym (rw g at (next xs place)); few = omega arith }
+
+      pub work-more : {k : ℕ} → r ≡ Numbers k → length ns′ ≡ length ns → Working l ms es d long wv′ wm′ wk′ ns′ k (i + 1)
+      work-more {k} g q = record {
+        kept = q ∙ w .kept;
+        within = omega arith;
+        few = let b = rw g at (t .few) in omega (arith, w .few);
+        rest = λ xs place. rw add-one (rw g at (next xs place));
+      }
+
+pub ruleset working = (needs, named-at, work-start, work-end, work-room, work-few, work-beyond, work-more)

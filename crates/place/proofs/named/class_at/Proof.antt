@@ -1,0 +1,19 @@
+use Rattle.place.proofs.NamedLaws.{classing}
+use Rattle.place.proofs.named.class_at.Statement.{statement}
+use Rattle.place.proofs.named.class_at.Tie as tie
+use Rattle.place.proofs.named.class_at.Reads as reads
+use Rattle.place.proofs.named.class_at.Lts as lts
+use Rattle.cells.proofs.at.Reads as at-reads
+use Rattle.mode.proofs.class_in.Reads as class-in-reads
+
+at-requires : tie.Need-at-requires
+at-requires c κs = search classing
+
+class-in-requires : tie.Need-class-in-requires
+class-in-requires c κs = search classing
+
+returns : tie.Need-returns
+returns c = search classing
+
+pub class-at-spec : {M : Type 1} → statement M
+class-at-spec = tie.close (tie.spec at-requires class-in-requires returns)

@@ -1,0 +1,21 @@
+use Rattle.place.proofs.ReferenceLaws.{symbols}
+use Rattle.place.proofs.references.home_of.Statement.{statement}
+use Rattle.place.proofs.references.home_of.Tie as tie
+use Rattle.place.proofs.references.home_of.Reads as reads
+use Rattle.place.proofs.references.home_of.Lts as lts
+use Rattle.place.proofs.references.rank_of.Reads as rank-of-reads
+
+returns : tie.Need-returns
+returns c = search symbols
+
+sub-rank-of : tie.Need-sub-rank-of
+sub-rank-of c = search symbols
+
+rank-of-requires : tie.Need-rank-of-requires
+rank-of-requires c κs = search symbols
+
+returns-2 : tie.Need-returns-2
+returns-2 c = search symbols
+
+pub home-of-spec : {M : Type 1} → statement M
+home-of-spec = tie.close (tie.spec returns sub-rank-of rank-of-requires returns-2)

@@ -1,0 +1,31 @@
+use Rattle.place.proofs.ReferenceLaws.{referring}
+use Rattle.place.proofs.references.refer.Statement.{statement}
+use Rattle.place.proofs.references.refer.Tie as tie
+use Rattle.place.proofs.references.refer.Reads as reads
+use Rattle.place.proofs.references.refer.Lts as lts
+use Rattle.place.proofs.references.rank_of.Reads as rank-of-reads
+use Rattle.place.proofs.references.symbol_ref.Reads as symbol-ref-reads
+use Rattle.place.proofs.references.to_area.Reads as to-area-reads
+
+symbol-ref-requires : tie.Need-symbol-ref-requires
+symbol-ref-requires c κs = search referring
+
+returns : tie.Need-returns
+returns c = search referring
+
+returns-2 : tie.Need-returns-2
+returns-2 c = search referring
+
+rank-of-requires : tie.Need-rank-of-requires
+rank-of-requires c κs = search referring
+
+to-area-requires : tie.Need-to-area-requires
+to-area-requires c κs = search referring
+
+returns-3 : tie.Need-returns-3
+returns-3 c = search referring
+
+pub refer-spec : {M : Type 1} → statement M
+refer-spec =
+    tie.close
+    (tie.spec symbol-ref-requires returns returns-2 rank-of-requires to-area-requires returns-3)

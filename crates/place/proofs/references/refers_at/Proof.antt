@@ -1,0 +1,55 @@
+use Rattle.place.proofs.ReferenceLaws.{looking}
+use Rattle.place.proofs.references.refers_at.Statement.{statement}
+use Rattle.place.proofs.references.refers_at.Tie as tie
+use Rattle.place.proofs.references.refers_at.Reads as reads
+use Rattle.place.proofs.references.refers_at.Lts as lts
+use Rattle.cells.proofs.at.Reads as at-reads
+use Rattle.cells.proofs.wide.Reads as wide-reads
+use Rattle.mode.proofs.gives.Reads as gives-reads
+use Rattle.place.proofs.named.class_at.Reads as class-at-reads
+use Rattle.place.proofs.references.refer.Reads as refer-reads
+
+at-requires : tie.Need-at-requires
+at-requires c κs = search looking
+
+returns : tie.Need-returns
+returns c = search looking
+
+at-requires-2 : tie.Need-at-requires-2
+at-requires-2 c κs = search looking
+
+class-at-requires : tie.Need-class-at-requires
+class-at-requires c κs = search looking
+
+gives-requires : tie.Need-gives-requires
+gives-requires c κs = search looking
+
+returns-2 : tie.Need-returns-2
+returns-2 c = search looking
+
+at-requires-3 : tie.Need-at-requires-3
+at-requires-3 c κs = search looking
+
+wide-requires : tie.Need-wide-requires
+wide-requires c κs = search looking
+
+refer-requires : tie.Need-refer-requires
+refer-requires c κs = search looking
+
+returns-3 : tie.Need-returns-3
+returns-3 c = search looking
+
+pub refers-at-spec : {M : Type 1} → statement M
+refers-at-spec =
+    tie.close
+    (tie.spec
+    at-requires
+    returns
+    at-requires-2
+    class-at-requires
+    gives-requires
+    returns-2
+    at-requires-3
+    wide-requires
+    refer-requires
+    returns-3)

@@ -1,0 +1,17 @@
+use Rattle.place.proofs.ReferenceLaws.{symbols}
+use Rattle.place.proofs.references.to_area.Statement.{statement}
+use Rattle.place.proofs.references.to_area.Tie as tie
+use Rattle.place.proofs.references.to_area.Reads as reads
+use Rattle.place.proofs.references.to_area.Lts as lts
+
+returns : tie.Need-returns
+returns c = search symbols
+
+sub-t4 : tie.Need-sub-t4
+sub-t4 c = search symbols
+
+returns-2 : tie.Need-returns-2
+returns-2 c = search symbols
+
+pub to-area-spec : {M : Type 1} → statement M
+to-area-spec = tie.close (tie.spec returns sub-t4 returns-2)

@@ -1,0 +1,22 @@
+use Rattle.place.proofs.SiteLaws.{fitting}
+use Rattle.place.proofs.site.counts_fit.Statement.{statement}
+use Rattle.place.proofs.site.counts_fit.Tie as tie
+use Rattle.place.proofs.site.counts_fit.Reads as reads
+use Rattle.place.proofs.site.counts_fit.Lts as lts
+use Rattle.place.proofs.site.filled_fits.Reads as filled-fits-reads
+use Rattle.place.proofs.site.line_fits.Reads as line-fits-reads
+
+line-fits-requires : tie.Need-line-fits-requires
+line-fits-requires c κs = search fitting
+
+filled-fits-requires : tie.Need-filled-fits-requires
+filled-fits-requires c κs = search fitting
+
+returns : tie.Need-returns
+returns c = search fitting
+
+returns-2 : tie.Need-returns-2
+returns-2 c = search fitting
+
+pub counts-fit-spec : {M : Type 1} → statement M
+counts-fit-spec = tie.close (tie.spec line-fits-requires filled-fits-requires returns returns-2)

@@ -1,0 +1,75 @@
+-- The check pass: how many fixups there are behind a fragment, an entry, a line; 11, 12 and 13.
+-- Assumes nothing.
+use Prim.Native.Nat.{ℕ, zero, suc, _+_, _≤_}
+use mathlib.Core.Path.{_≡_}
+use mathlib.Core.List.{List, [], _∷_}
+use mathlib.Core.Option.{Option, none, some}
+use lib.Dec.{eqb, ltb}
+use lib.ListN.{getD}
+use Rattle.format.specs.Lists.{pick}
+use Rattle.format.specs.Pairs.{Fragment}
+use Rattle.format.specs.Outcome.{Outcome, fine, refused, andThen}
+use Rattle.format.specs.Tables.{Tables}
+use Rattle.format.specs.Fixups.{Reference}
+use Rattle.laws.specs.Rows.{tablesIn}
+use Rattle.place.specs.declared.site.Site.{Site}
+use Rattle.place.specs.declared.walk.Fixed.{Fixed}
+use Rattle.place.specs.declared.walk.Fixed.the-variants.{Refused, Rows}
+use Rattle.place.specs.declared.references.Refers.{Refers}
+use Rattle.place.specs.References as ref
+use Rattle.place.specs.References.{refersAt}
+use Rattle.place.specs.Columns.{fragmentsIn}
+
+-- 12 where there is no number i of n, 13 where there are 1,024 already
+unfoldable pub countOne : (i n k place : ℕ) → Outcome ℕ
+countOne i n k place = pick (ltb i n) (pick (ltb k 1024) (fine (suc k)) (refused 13 place)) (refused 12 place)
+
+abbrev pub countTo : (i n k place : ℕ) → Option Reference → Outcome ℕ
+countTo i n k place none = fine k
+countTo i n k place (some r) = countOne i n k place
+
+-- behind a fragment whose reference was looked up
+unfoldable pub countFor : Refers → (i n k place : ℕ) → Outcome ℕ
+countFor to i n k place = andThen (ref.told place to) (λ r. countTo i n k place r)
+
+-- behind the fragments of an entry, the i-th first; n numbers are made
+unfoldable pub countsAt : Tables → (n entry i : ℕ) → List Fragment → (k place : ℕ) → Outcome ℕ
+countsAt t n entry i [] k place = fine k
+countsAt t n entry i (f ∷ fs) k place =
+    andThen (andThen (refersAt t f entry place) (λ r. countTo i n k place r)) (λ j. countsAt t n entry (suc i) fs j place)
+
+-- behind m entries from an entry on, while the position is inside the area
+unfoldable pub countWalk : Tables → (n size : ℕ) → List Fragment → (keeps : List ℕ) → (m entry position k place : ℕ) → Outcome ℕ
+countWalk t n size fs keeps zero entry position k place = fine k
+countWalk t n size fs keeps (suc m) entry position k place =
+    pick (ltb position size)
+    (andThen (countsAt t n entry 0 fs k place) (λ j.
+    countWalk t n size fs keeps m (suc entry) (position + pick (eqb (getD keeps entry 0) 1) 1 0) j place))
+    (fine k)
+
+-- the same at the lent rows; the place comes last, so that a contract names it without a λ
+abbrev pub tablesOf : (areas symbols : List ℕ) → Site → Tables
+tablesOf areas symbols s = tablesIn areas (s .filled .areas) symbols (s .filled .symbols)
+
+unfoldable pub countEntry : (ms es xs areas symbols : List ℕ) → Site → (entry k place : ℕ) → Outcome ℕ
+countEntry ms es xs areas symbols s entry k place =
+    countsAt (tablesOf areas symbols s) (s .made) entry 0 (fragmentsIn ms es xs (s .line .fragments)) k place
+
+unfoldable pub countLine : (ms es xs areas symbols : List ℕ) → Site → (keeps : List ℕ) → (place : ℕ) → Outcome ℕ
+countLine ms es xs areas symbols s keeps place =
+    countWalk (tablesOf areas symbols s) (s .made) (s .size) (fragmentsIn ms es xs (s .line .fragments)) keeps (s .line .width + s .line .bytes) 0 (s .line .address) (s .filled .fixups) place
+
+-- what an answer says
+abbrev pub toldCount : (place : ℕ) → Fixed → Outcome ℕ
+toldCount place (Refused n) = refused n place
+toldCount place (Rows k) = fine k
+
+-- how many rows there may be then
+abbrev pub usedBy : Fixed → ℕ
+usedBy (Refused n) = 1024
+usedBy (Rows k) = k
+
+pub record Tallied (o : ℕ → Outcome ℕ) (k : ℕ) (r : Fixed) : Type 0 where
+  pub says : (place : ℕ) → toldCount place r ≡ o place
+  pub room : usedBy r ≤ 1024
+  pub grew : k ≤ usedBy r

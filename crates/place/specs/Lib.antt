@@ -1,0 +1,10 @@
+pub mod Columns
+pub mod Named
+pub mod Work
+pub mod References
+pub mod Check
+pub mod Walk
+pub mod Image
+pub mod Site
+pub mod Pair
+pub mod Group

@@ -1,0 +1,114 @@
+-- What the placing of one pair answers, in the definition's words.
+-- Assumes nothing.
+use Prim.Native.Nat.{ℕ, _+_, _*_, _≤_}
+use mathlib.Core.Path.{_≡_}
+use mathlib.Core.Bool.{Bool, true, false, _&&_}
+use mathlib.Core.List.{List}
+use mathlib.Core.Option.{Option, none, some}
+use lib.ListN.{length, take, drop}
+use Rattle.format.specs.Lists.{pick}
+use Rattle.format.specs.Header.{Form}
+use Rattle.format.specs.Pairs.{Content, placed}
+use Rattle.format.specs.Outcome.{Outcome, fine, refused, andThen}
+use Rattle.format.specs.Tables.{Area, rank, offset}
+use Rattle.format.specs.Placing.{State, walk, walkBy, extent, placeAt, placePair}
+use Rattle.laws.specs.Rows.{areasIn, tablesIn, stateOf}
+use Rattle.place.specs.declared.pair.Line.{Line}
+use Rattle.place.specs.declared.pair.Filled.{Filled}
+use Rattle.place.specs.declared.pair.Placed.{Placed}
+use Rattle.place.specs.declared.pair.Placed.the-variants.{Done, Stopped, Misfit}
+use Rattle.place.specs.declared.site.Site.{Site}
+use Rattle.place.specs.declared.walk.Fixed.{Fixed}
+use Rattle.place.specs.declared.walk.Fixed.the-variants.{Refused, Rows}
+use Rattle.place.specs.Columns.{fragmentsIn}
+use Rattle.place.specs.Check.{tablesOf, usedBy}
+use Rattle.place.specs.declared.work_line.Worked.{Worked}
+use Rattle.place.specs.Named.{Named}
+use Rattle.place.specs.Work as work
+use Rattle.place.specs.Walk.{Ready, writes}
+use Rattle.place.specs.Site.{lineFits, filledFits, imageFits}
+
+abbrev pub formOf : ℕ → Line → Form
+formOf radix l = record { radix = radix; big = l .big; addressLength = l .width }
+
+abbrev pub contentOf : Line → List ℕ → Content
+contentOf l bs = record { address = l .address; bytes = take (l .bytes) bs }
+
+-- the definition at the lent rows; neither the radix nor the place where the pair ends matters
+unfoldable pub pairOf : Line → (bs ms es xs areas symbols : List ℕ) → Filled → State → (radix end : ℕ) → Outcome State
+pairOf l bs ms es xs areas symbols n st radix end =
+    placePair (formOf radix l) (tablesIn areas (n .areas) symbols (n .symbols)) st
+    (record { place = l .place; end = end; body = placed (contentOf l bs) (record { area = l .area; fragments = fragmentsIn ms es xs (l .fragments) }) })
+
+-- the same for a kept area at its site
+unfoldable pub pairAt : Site → (bs ms es xs areas symbols : List ℕ) → State → (radix place : ℕ) → Outcome State
+pairAt s bs ms es xs areas symbols st radix place =
+    placeAt (formOf radix (s .line)) (tablesOf areas symbols s) place (s .home) (s .start) (s .size) (contentOf (s .line) bs) (fragmentsIn ms es xs (s .line .fragments)) st
+
+-- the same with the work line as the fragments left it
+unfoldable pub afterWork : Site → Worked → (ms es xs areas symbols ns wv wm wk : List ℕ) → State → (radix place : ℕ) → Outcome State
+afterWork s worked ms es xs areas symbols ns wv wm wk st radix place =
+    andThen (work.told place worked wv wm wk ns) (λ d.
+    walk (walkBy (tablesOf areas symbols s) place (s .home) (s .start) (s .size) (fragmentsIn ms es xs (s .line .fragments)) d) (s .line .width + s .line .bytes) 0 (s .line .address) st)
+
+-- a kept area's image ends within the bound, and the table has the classes of the pair's modes
+abbrev pub keptFits : (table ms : List ℕ) → List Area → Line → Option ℕ → Bool
+keptFits table ms areas l none = true
+keptFits table ms areas l (some id) = imageFits table ms (offset areas (l .area)) (extent areas (l .area)) (l .fragments)
+
+-- whether a pair can be placed: 5 to 9 are ruled out, the lent rows have room, and the table has the classes of the pair's modes
+unfoldable pub fits : (table : List ℕ) → Line → (bs ms areas : List ℕ) → Filled → (rows : List ℕ) → Bool
+fits table l bs ms areas n rows =
+    (lineFits l (length bs) && filledFits n (length rows)) && keptFits table ms (areasIn areas (n .areas)) l (rank 0 (areasIn areas (n .areas)) (l .area))
+
+-- what an answer says, with the images and the rows as they are then
+abbrev pub told : Placed → (vs ms rows : List ℕ) → Option (Outcome State)
+told (Done k) vs ms rows = some (fine (stateOf vs ms rows k))
+told (Stopped n p) vs ms rows = some (refused n p)
+told Misfit vs ms rows = none
+
+-- how many rows are in use then, as far as it is told
+abbrev pub usedNow : Placed → ℕ
+usedNow (Done k) = k
+usedNow (Stopped n p) = 0
+usedNow Misfit = 0
+
+-- whether anything may have changed
+abbrev pub changes : Placed → Bool
+changes (Done k) = true
+changes (Stopped n p) = false
+changes Misfit = false
+
+abbrev pub ended : ℕ → Fixed → Placed
+ended place (Rows k) = Done k
+ended place (Refused n) = Stopped n place
+
+abbrev pub toldState : (place : ℕ) → Fixed → (vs ms rows : List ℕ) → Outcome State
+toldState place (Refused n) vs ms rows = refused n place
+toldState place (Rows k) vs ms rows = fine (stateOf vs ms rows k)
+
+-- a work line with the pair's fragments worked in
+pub record Prepared (s : Site) (bs ms es : List ℕ) (r : Worked) (ns wv wm wk : List ℕ) : Type 0 where
+  pub turned : (xs areas symbols : List ℕ) (st : State) (radix place : ℕ) → pairAt s bs ms es xs areas symbols st radix place ≡ afterWork s r ms es xs areas symbols ns wv wm wk st radix place
+  pub few : work.madeBy r ≤ 64
+
+-- what is known of a pair that is placed
+pub record Placeable (table : List ℕ) (s : Site) (bs ms rows : List ℕ) : Type 0 where
+  pub ready : Ready s
+  pub named : Named table ms (s .line .fragments)
+  pub lent : s .line .bytes ≤ length bs
+  pub room : 9216 ≤ length rows
+
+-- a pair of a kept area
+pub record Processed (o : (radix place : ℕ) → Outcome State) (vs ms rows : List ℕ) (r : Fixed) (vs′ ms′ rows′ : List ℕ) : Type 0 where
+  pub says : (radix place : ℕ) → toldState place r vs′ ms′ rows′ ≡ o radix place
+  pub room : usedBy r ≤ 1024
+  pub rest : drop (9 * usedBy r) rows′ ≡ drop (9 * usedBy r) rows
+  pub same : writes r ≡ false → (vs′ ≡ vs) × ((ms′ ≡ ms) × (rows′ ≡ rows))
+
+-- a pair of any area, and every lent byte: where it fits, what the definition says; else a misfit; and nothing has changed unless it is placed
+pub record PairPlaced (fit : Bool) (o : (radix end : ℕ) → Outcome State) (vs ms rows : List ℕ) (r : Placed) (vs′ ms′ rows′ : List ℕ) : Type 0 where
+  pub says : (radix end : ℕ) → told r vs′ ms′ rows′ ≡ pick fit (some (o radix end)) none
+  pub few : usedNow r ≤ 1024
+  pub rest : drop (9 * usedNow r) rows′ ≡ drop (9 * usedNow r) rows
+  pub same : changes r ≡ false → (vs′ ≡ vs) × ((ms′ ≡ ms) × (rows′ ≡ rows))

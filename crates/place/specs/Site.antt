@@ -1,0 +1,41 @@
+-- Whether a pair's numbers fit, and where the pair goes.
+-- Assumes nothing.
+use Prim.Native.Nat.{ℕ, _+_}
+use mathlib.Core.Bool.{Bool, _&&_}
+use mathlib.Core.List.{List}
+use mathlib.Core.Option.{Option, none, some}
+use lib.Dec.{leb}
+use Rattle.format.specs.Lists.{pick}
+use Rattle.format.specs.Tables.{Area, rank, offset}
+use Rattle.format.specs.Placing.{extent}
+use Rattle.place.specs.declared.pair.Line.{Line}
+use Rattle.place.specs.declared.pair.Filled.{Filled}
+use Rattle.place.specs.declared.site.Site.{Site}
+use Rattle.place.specs.declared.site.Found.{Found}
+use Rattle.place.specs.declared.site.Found.the-variants.{Unkept, Misfit, At}
+use Rattle.place.specs.Named.{names}
+
+-- a line's counts are within the bounds, and as many content bytes are lent
+unfoldable pub lineFits : Line → (lent : ℕ) → Bool
+lineFits l lent = leb (l .width) 4 && (leb (l .bytes) 256 && (leb (l .bytes) lent && leb (l .fragments) 64))
+
+-- the counts of rows are, and the fixup rows have room
+unfoldable pub filledFits : Filled → (room : ℕ) → Bool
+filledFits n room = leb (n .areas) 64 && (leb (n .symbols) 1024 && (leb (n .fixups) 1024 && leb 9216 room))
+
+-- an image of a size that starts at a place ends within the bound, and the table has the classes of the first c modes
+unfoldable pub imageFits : (table ms : List ℕ) (start size c : ℕ) → Bool
+imageFits table ms start size c = leb (start + size) 65536 && names table ms 0 c
+
+-- the site of a pair whose area has an id
+abbrev pub siteAt : Line → Filled → (id start size : ℕ) → Site
+siteAt l n id start size = record { line = l; filled = n; home = id; start = start; size = size; made = 0 }
+
+-- where a pair goes, by the rank of its area
+abbrev pub foundBy : (table ms : List ℕ) → List Area → Line → Filled → Option ℕ → Found
+foundBy table ms areas l n none = Unkept
+foundBy table ms areas l n (some id) =
+    pick (imageFits table ms (offset areas (l .area)) (extent areas (l .area)) (l .fragments)) (At (siteAt l n id (offset areas (l .area)) (extent areas (l .area)))) Misfit
+
+unfoldable pub found : (table ms : List ℕ) → List Area → Line → Filled → Found
+found table ms areas l n = foundBy table ms areas l n (rank 0 areas (l .area))

@@ -1,0 +1,71 @@
+-- The fragments of a pair worked into its work line, 10 ruled out as they come: what the code does, and what its answers say.
+-- Assumes nothing.
+use Prim.Native.Nat.{ℕ, _+_, _≤_}
+use mathlib.Core.Path.{_≡_}
+use mathlib.Core.Bool.{Bool}
+use mathlib.Core.List.{List, [], _∷_}
+use mathlib.Core.Option.{Option, some}
+use lib.Dec.{leb}
+use lib.ListN.{take, drop}
+use Rattle.format.specs.Lists.{pick}
+use Rattle.format.specs.Pairs.{Fragment}
+use Rattle.format.specs.Outcome.{Outcome, fine, refused, andThen}
+use Rattle.format.specs.Mode.{Class}
+use Rattle.format.specs.ModeStep.{numberBy, valuesBy, masksBy, keepsBy}
+use Rattle.format.specs.WorkLine.{beyond, stepAt, partly}
+use Rattle.format.specs.WorkLine as defs
+use Rattle.mode.specs.declared.step.Step.{Step}
+use Rattle.mode.specs.Step.{toldStep}
+use Rattle.place.specs.declared.pair.Line.{Line}
+use Rattle.place.specs.declared.work_line.Worked.{Worked}
+use Rattle.place.specs.declared.work_line.Worked.the-variants.{Beyond, Numbers}
+use Rattle.place.specs.Columns.{fragmentAt, fragmentsIn}
+
+-- a line within the bounds
+pub record Short (l : Line) : Type 0 where
+  pub address : l .width ≤ 4
+  pub content : l .bytes ≤ 256
+  pub fragments : l .fragments ≤ 64
+
+-- the work line that three arrays hold, and the numbers, of which k are made
+unfoldable pub lineOf : (wv wm wk ns : List ℕ) → ℕ → defs.Worked
+lineOf wv wm wk ns k = record { work = record { values = wv; masks = wm; keeps = wk }; numbers = take k ns }
+
+-- one fragment: 10, or its step
+unfoldable pub turnOf : (a : ℕ) → Bool → (n place : ℕ) → Fragment → defs.Worked → Outcome defs.Worked
+turnOf a big n place f d = pick (beyond a n f) (refused 10 place) (fine (pick (leb a (f .entry)) (stepAt big f d) d))
+
+-- all of them
+unfoldable pub turns : (a : ℕ) → Bool → (n place : ℕ) → List Fragment → defs.Worked → Outcome defs.Worked
+turns a big n place [] d = fine d
+turns a big n place (f ∷ fs) d = andThen (turnOf a big n place f d) (λ e. turns a big n place fs e)
+
+-- the line's fragments, whose indexes do not matter here; the place comes last, so that a contract names it without a λ
+unfoldable pub allTurns : Line → (ms es : List ℕ) → defs.Worked → (xs : List ℕ) (place : ℕ) → Outcome defs.Worked
+allTurns l ms es d xs place = turns (l .width) (l .big) (l .bytes) place (fragmentsIn ms es xs (l .fragments)) d
+
+-- what an answer says, with the arrays as they are then
+abbrev pub told : (place : ℕ) → Worked → (wv wm wk ns : List ℕ) → Outcome defs.Worked
+told place Beyond wv wm wk ns = refused 10 place
+told place (Numbers k) wv wm wk ns = fine (lineOf wv wm wk ns k)
+
+abbrev pub madeBy : Worked → ℕ
+madeBy Beyond = 0
+madeBy (Numbers k) = k
+
+-- a class's step, done to the parts from an entry on
+pub record Applied (c : Class) (three big : Bool) (entry : ℕ) (r : Step) (wv wm wk wv′ wm′ wk′ : List ℕ) : Type 0 where
+  pub number : toldStep r ≡ some (numberBy big c (drop entry wv))
+  pub values : wv′ ≡ partly entry (valuesBy c three) wv
+  pub masks : wm′ ≡ partly entry (masksBy c three) wm
+  pub keeps : wk′ ≡ partly entry (keepsBy c three) wk
+
+-- a turn's answer: what it says, and that it made one number at most
+pub record Turned (l : Line) (ms es : List ℕ) (i : ℕ) (wv wm wk ns : List ℕ) (m : ℕ) (r : Worked) (wv′ wm′ wk′ ns′ : List ℕ) : Type 0 where
+  pub says : (xs : List ℕ) (place : ℕ) → told place r wv′ wm′ wk′ ns′ ≡ turnOf (l .width) (l .big) (l .bytes) place (fragmentAt ms es xs i) (lineOf wv wm wk ns m)
+  pub few : madeBy r ≤ m + 1
+
+-- all turns: what the definition says at each place, and no more numbers than fragments
+pub record Whole (o : (xs : List ℕ) (place : ℕ) → Outcome defs.Worked) (c : ℕ) (r : Worked) (wv′ wm′ wk′ ns′ : List ℕ) : Type 0 where
+  pub says : (xs : List ℕ) (place : ℕ) → told place r wv′ wm′ wk′ ns′ ≡ o xs place
+  pub few : madeBy r ≤ c

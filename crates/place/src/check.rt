@@ -1,0 +1,134 @@
+// The check pass: 11, 12 and 13 as the walk of a pair meets them, before anything is written.
+use crate::references::Refers;
+use crate::references::refers_at;
+use crate::site::Site;
+use crate::walk::Fixed;
+use cells::byte_at;
+use cells::wide;
+ghost use mathlib.Core.Path.{_≡_};
+ghost use Prim.Native.Nat.{_≤_};
+ghost use lib.Dec.{eqb};
+ghost use lib.ListN.{getD};
+ghost use Rattle.format.specs.Lists.{pick};
+ghost use Rattle.place.specs.Named.{Named};
+ghost use Rattle.place.specs.Check.{countOne, countFor, countEntry, countLine, Tallied};
+ghost use Rattle.place.specs.Walk.{Ready};
+
+// One fixup more than k, for the i-th fragment: 12 if there is no number i of n, 13 if there are too many.
+pub(crate) fn one_more(i: usize, n: usize, k: usize) -> Fixed
+    requires { ⌜ k ≤ 1024 ⌝ }
+    ensures { λ r. ⌜ Tallied (countOne i n k) k r ⌝ }
+{
+    if n <= i {
+        return Fixed::Refused(12);
+    }
+    if 1024 <= k {
+        return Fixed::Refused(13);
+    }
+    Fixed::Rows(k + 1)
+}
+
+// How many fixups there are behind the i-th fragment, with k before it.
+fn count_to(to: Refers, i: usize, n: usize, k: usize) -> Fixed
+    requires { ⌜ k ≤ 1024 ⌝ }
+    ensures { λ r. ⌜ Tallied (countFor to i n k) k r ⌝ }
+{
+    match to {
+        Refers::Missing => Fixed::Refused(11),
+        Refers::Nothing => Fixed::Rows(k),
+        Refers::To(_) => one_more(i, n, k),
+    }
+}
+
+// The fragments of the entry e, in order.
+fn check_entry(
+    table: &[u8; 2048],
+    site: Site,
+    ms: &[u32],
+    es: &[u32],
+    xs: &[u32],
+    areas: &[u32],
+    symbols: &[u32],
+    e: u32,
+    k: usize,
+) -> Fixed
+    requires { ⌜ Ready site ⌝ }
+    requires { ⌜ Named (now table) (now ms) (site .line .fragments) ⌝ }
+    requires { ⌜ k ≤ 1024 ⌝ }
+    ensures { λ r. ⌜ Tallied (countEntry (now (ms .entry)) (now (es .entry)) (now (xs .entry)) (now (areas .entry)) (now (symbols .entry)) site e k) k r ⌝ }
+{
+    let mut j = k;
+    let mut i: usize = 0;
+    while i < site.line.fragments {
+        let to = refers_at(table, ms, es, xs, areas, symbols, site.filled, i, e);
+        let r = count_to(to, i, site.made, j);
+        let Fixed::Rows(x) = r else {
+            return r;
+        };
+        j = x;
+        i += 1;
+    }
+    Fixed::Rows(j)
+}
+
+// By how much the position grows behind the entry e: 1 if it is kept.
+pub(crate) fn grows(wk: &[u8], e: u32) -> u32
+    ensures { λ r. ⌜ r ≡ pick (eqb (getD (now (wk .entry)) e 0) 1) 1 0 ⌝ }
+{
+    if byte_at(wk, wide(e)) == 1 { 1 } else { 0 }
+}
+
+// The entries from 0 on, while the position is inside the area.
+fn check_line(
+    table: &[u8; 2048],
+    site: Site,
+    ms: &[u32],
+    es: &[u32],
+    xs: &[u32],
+    areas: &[u32],
+    symbols: &[u32],
+    wk: &[u8],
+) -> Fixed
+    requires { ⌜ Ready site ⌝ }
+    requires { ⌜ Named (now table) (now ms) (site .line .fragments) ⌝ }
+    ensures { λ r. ⌜ Tallied (countLine (now (ms .entry)) (now (es .entry)) (now (xs .entry)) (now (areas .entry)) (now (symbols .entry)) site (now (wk .entry))) (site .filled .fixups) r ⌝ }
+{
+    let n = (site.line.width + site.line.bytes) as u32;
+    let mut k = site.filled.fixups;
+    let mut e: u32 = 0;
+    let mut p = site.line.address;
+    while e < n {
+        if site.size <= p {
+            return Fixed::Rows(k);
+        }
+        let r = check_entry(table, site, ms, es, xs, areas, symbols, e, k);
+        let Fixed::Rows(x) = r else {
+            return r;
+        };
+        p += grows(wk, e);
+        k = x;
+        e += 1;
+    }
+    Fixed::Rows(k)
+}
+
+// The same, and nothing to do where the pair has no fragment.
+pub(crate) fn check_pair(
+    table: &[u8; 2048],
+    site: Site,
+    ms: &[u32],
+    es: &[u32],
+    xs: &[u32],
+    areas: &[u32],
+    symbols: &[u32],
+    wk: &[u8],
+) -> Fixed
+    requires { ⌜ Ready site ⌝ }
+    requires { ⌜ Named (now table) (now ms) (site .line .fragments) ⌝ }
+    ensures { λ r. ⌜ Tallied (countLine (now (ms .entry)) (now (es .entry)) (now (xs .entry)) (now (areas .entry)) (now (symbols .entry)) site (now (wk .entry))) (site .filled .fixups) r ⌝ }
+{
+    if site.line.fragments == 0 {
+        return Fixed::Rows(site.filled.fixups);
+    }
+    check_line(table, site, ms, es, xs, areas, symbols, wk)
+}

@@ -1,0 +1,17 @@
+// One T and R pair placed: its work line, its fixups and its bytes; and fixup rows grouped by area.
+mod check;
+mod group;
+mod image;
+mod named;
+mod pair;
+mod references;
+mod site;
+mod walk;
+mod work_line;
+
+pub use group::Grouped;
+pub use group::by_area;
+pub use pair::Filled;
+pub use pair::Line;
+pub use pair::Placed;
+pub use pair::place_pair;

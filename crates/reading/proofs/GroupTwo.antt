@@ -1,0 +1,531 @@
+-- The laws of group two: counting and placing the rest of the pairs from here, as placing stands, gives what the whole gives.
+-- Assumes nothing.
+use Prim.Native.Nat.{ℕ, suc, _+_, _-_, _<_, _≤_}
+use mathlib.Core.Path.{_≡_, refl, ap, sym, subst, _∙_}
+use mathlib.Core.Bool.{Bool, true, false}
+use mathlib.Core.List.{List, [], _∷_, _++_, map, append-assoc}
+use mathlib.Core.Option.{some}
+use native.Mathlib.Omega.{arith}
+use native.Mathlib.Nat.{zero-add}
+use lib.ListN.{length, take, drop, length-append, length-map, replicate, length-replicate}
+use lib.Seq.{sets, sets-eq, length-sets, take-append-seam, getD-at}
+use lib.Dec.{ltb}
+use borrow.Author.Needs.{needs}
+use borrow.Author.Tests.{lt-ltb, le-ltb, le-leb, lt-leb, ltb-true, ltb-false}
+use Rattle.format.specs.Lists.{pick}
+use Rattle.format.specs.Header.{Form}
+use Rattle.format.specs.Pairs as the
+use Rattle.format.specs.Outcome.{Outcome, fine, refused, andThen, fold}
+use Rattle.format.specs.Records.{stops, Taken, lastOf}
+use Rattle.format.specs.Tables.{Tables, fits, total}
+use Rattle.format.specs.Placing.{State, placePair}
+use Rattle.laws.specs.Places.{pairAt, pairsAt}
+use Rattle.laws.specs.Rows.{from, areasIn, tablesIn, stateOf}
+use Rattle.laws.proofs.Places.{pairs-at}
+use Rattle.mode.specs.Class.{classTable}
+use Rattle.text.specs.Told.{formOf, moreOf}
+use Rattle.text.specs.declared.Form as text
+use Rattle.text.specs.declared.Width.{Width}
+use Rattle.text.specs.declared.Width.the-variants as wide
+use Rattle.line.specs.Pairs.{Rows}
+use Rattle.place.specs.Columns.{fragmentAt, fragmentsIn}
+use Rattle.place.specs.Pair.{contentOf, pairOf, fits as fitsIn, told, usedNow, PairPlaced}
+use Rattle.reading.proofs.PlaceFits.{fits-when}
+use Rattle.place.specs.declared.pair.Filled.{Filled}
+use Rattle.place.specs.declared.pair.Line.{Line}
+use Rattle.place.specs.declared.pair.Placed as place
+use Rattle.place.specs.declared.pair.Placed.the-variants.{Done as Through, Stopped, Misfit}
+use Rattle.reading.specs.PairLines.{PlacedIs, BodyIs, stepTo, StepOf, StepSays, PairStepIs}
+use Rattle.reading.specs.Onward.{endsOf, Ended, stands, onward, onwardAt, toldTwo, FewIn, GroupedTwo, endingWith, endingOf, afterOf, steppedOf, standingIn, overOf, placedOf, lineFor, planOf, turnOf, twoOf, standingOf, filledOf, Sound, Ready, PlaceReady, Advances, GoesOn, TurnSays, TurnIs}
+use Rattle.reading.specs.declared.pair.Body.{Body}
+use Rattle.reading.specs.declared.pair.Body.the-variants.{Skipped, Placed}
+use Rattle.reading.specs.declared.pair.PairStep.{PairStep}
+use Rattle.reading.specs.declared.pair.PairStep.the-variants.{Ends, Takes}
+use Rattle.reading.specs.declared.plan.Standing.{Standing}
+use Rattle.reading.specs.declared.plan.Standing.the-variants.{Made, Kept}
+use Rattle.reading.specs.declared.plan.Going.{Going}
+use Rattle.reading.specs.declared.plan.Two.{Two}
+use Rattle.reading.specs.declared.plan.Two.the-variants.{All, Rejected}
+use Rattle.reading.specs.declared.plan.Turn.{Turn}
+use Rattle.reading.specs.declared.plan.Turn.the-variants.{Goes, Done}
+use Rattle.reading.specs.declared.plan.Plan.{Plan}
+use Rattle.reading.specs.declared.plan.Plan.the-variants.{Leave, Place}
+
+-- ------------------------------------------------------------------ small answers
+
+module _ (g : Going) where
+  pub ends-made : {k : ℕ} → g .standing ≡ Made k → All (g .lines) (g .stop) k ≡ endingOf g
+  ends-made e = rw e
+
+  pub ends-kept : {n p : ℕ} → g .standing ≡ Kept n p → Rejected n p ≡ endingOf g
+  ends-kept e = rw e
+
+  pub after-on : g .on ≡ true → Goes g ≡ afterOf g
+  after-on e = rw e
+
+  pub after-off : g .on ≡ false → {two : Two} → two ≡ endingOf g → Done two ≡ afterOf g
+  after-off e i = rw (e, i)
+
+pub wide-two : {w : Width} → w ≡ wide.Two → _≡_ {A = ℕ} 2 (suc (moreOf w))
+wide-two e = rw e
+
+pub wide-three : {w : Width} → w ≡ wide.Three → _≡_ {A = ℕ} 3 (suc (moreOf w))
+wide-three e = rw e
+
+pub wide-four : {w : Width} → w ≡ wide.Four → _≡_ {A = ℕ} 4 (suc (moreOf w))
+wide-four e = rw e
+
+module _ (l : Line) (g : Going) (p : ℕ) where
+  pub placed-7 : 256 < l .bytes → {r : Plan} → r ≡ overOf 7 p → r ≡ placedOf l g p
+  placed-7 h e = rw (e, lt-ltb 256 (l .bytes) h)
+
+  module _ (h : l .bytes ≤ 256) where
+    pub placed-8 : 64 < l .fragments → {r : Plan} → r ≡ overOf 8 p → r ≡ placedOf l g p
+    placed-8 i e = rw (e, le-ltb 256 (l .bytes) h, lt-ltb 64 (l .fragments) i)
+
+    pub placed-fits : l .fragments ≤ 64 → Place l g ≡ placedOf l g p
+    placed-fits i = rw (le-ltb 256 (l .bytes) h, le-ltb 64 (l .fragments) i)
+
+module _ {st : PairStep} (g : Going) (f : text.Form) where
+  pub plan-ends : st ≡ Ends → {two : Two} → two ≡ endingOf g → Leave (Done two) ≡ planOf st g f
+  plan-ends e i = rw (e, i)
+
+  module _ {body : Body} {end next : ℕ} {on : Bool} (e : st ≡ Takes body end next on) where
+    pub plan-skips : body ≡ Skipped → {g′ : Going} {u : Turn} → g′ ≡ steppedOf g (g .lines) end next on → u ≡ afterOf g′ → Leave u ≡ planOf st g f
+    plan-skips b i j = rw (e, b, j, i)
+
+    pub plan-places : {a n ar k : ℕ} → body ≡ Placed a n ar k → {w area : ℕ} {g′ : Going} {r : Plan} → w ≡ suc (moreOf (f .width)) → area ≡ ar → g′ ≡ steppedOf g (g .lines + 1) end next on
+        → r ≡ placedOf (record { big = f .big; width = w; place = g .next; address = a; bytes = n; fragments = k; area = area }) g′ (g .next) → r ≡ planOf st g f
+    plan-places b h i j x = rw (e, b, x, j, h, i)
+
+pub turn-of-leave : {p : Plan} {u : Turn} → p ≡ Leave u → u ≡ turnOf p
+turn-of-leave e = rw e
+
+pub turn-of-place : {p : Plan} {l : Line} {g : Going} → p ≡ Place l g → {u : Turn} → u ≡ afterOf g → u ≡ turnOf p
+turn-of-place e i = rw (e, i)
+
+pub two-of-done : {u : Turn} {two : Two} → u ≡ Done two → two ≡ twoOf u
+two-of-done e = rw e
+
+pub two-of-goes : {u : Turn} {g : Going} → u ≡ Goes g → {two : Two} → two ≡ endingOf g → two ≡ twoOf u
+two-of-goes e i = rw (e, i)
+
+pub stands-through : {r : place.Placed} {k : ℕ} → r ≡ Through k → Made k ≡ standingOf r
+stands-through e = rw e
+
+pub stands-stopped : {r : place.Placed} {n p : ℕ} → r ≡ Stopped n p → Kept n p ≡ standingOf r
+stands-stopped e = rw e
+
+pub stands-misfit : {r : place.Placed} → r ≡ Misfit → Kept 0 0 ≡ standingOf r
+stands-misfit e = rw e
+
+pub ruleset small = (needs, ends-made, ends-kept, after-on, after-off, wide-two, wide-three, wide-four, placed-7, placed-8, placed-fits, plan-ends, plan-skips, plan-places, turn-of-leave, turn-of-place, two-of-done, two-of-goes, stands-through, stands-stopped, stands-misfit)
+
+-- ------------------------------------------------------------------ the columns of a pair hold its fragments
+
+module _ (ms₀ es₀ xs₀ : List ℕ) where
+  columns : (ps qs rs : List ℕ) (fs : List the.Fragment) (i : ℕ) → length ps ≡ i → length qs ≡ i → length rs ≡ i
+      → from (fragmentAt (ps ++ (map (λ (f : the.Fragment). f .mode) fs ++ ms₀)) (qs ++ (map (λ (f : the.Fragment). f .entry) fs ++ es₀)) (rs ++ (map (λ (f : the.Fragment). f .index) fs ++ xs₀))) i (length fs) ≡ fs
+  unfolding from fragmentAt
+  columns ps qs rs [] i p q r = refl
+  columns ps qs rs (f ∷ fs) i p q r =
+      let M = map (λ (f : the.Fragment). f .mode) fs ++ ms₀ in
+      let E = map (λ (f : the.Fragment). f .entry) fs ++ es₀ in
+      let X = map (λ (f : the.Fragment). f .index) fs ++ xs₀ in
+      let one : fragmentAt (ps ++ f .mode ∷ M) (qs ++ f .entry ∷ E) (rs ++ f .index ∷ X) i ≡ f =
+      λ j. record { mode = getD-at ps (f .mode) M 0 i p j; entry = getD-at qs (f .entry) E 0 i q j; index = getD-at rs (f .index) X 0 i r j } in
+      let a : (ps ++ f .mode ∷ []) ++ M ≡ ps ++ f .mode ∷ M = append-assoc ps (f .mode ∷ []) M in
+      let b : (qs ++ f .entry ∷ []) ++ E ≡ qs ++ f .entry ∷ E = append-assoc qs (f .entry ∷ []) E in
+      let c : (rs ++ f .index ∷ []) ++ X ≡ rs ++ f .index ∷ X = append-assoc rs (f .index ∷ []) X in
+      let more : from (fragmentAt (ps ++ f .mode ∷ M) (qs ++ f .entry ∷ E) (rs ++ f .index ∷ X)) (suc i) (length fs) ≡ fs =
+      ap (λ (l : List ℕ). from (fragmentAt l (qs ++ f .entry ∷ E) (rs ++ f .index ∷ X)) (suc i) (length fs)) (sym a)
+      ∙ (ap (λ (l : List ℕ). from (fragmentAt ((ps ++ f .mode ∷ []) ++ M) l (rs ++ f .index ∷ X)) (suc i) (length fs)) (sym b)
+      ∙ (ap (λ (l : List ℕ). from (fragmentAt ((ps ++ f .mode ∷ []) ++ M) ((qs ++ f .entry ∷ []) ++ E) l) (suc i) (length fs)) (sym c)
+      ∙ columns (ps ++ f .mode ∷ []) (qs ++ f .entry ∷ []) (rs ++ f .index ∷ []) fs (suc i)
+      (simp length-append (omega arith)) (simp length-append (omega arith)) (simp length-append (omega arith)))) in
+      λ j. one j ∷ more j
+
+pub laid : (xs room : List ℕ) → length xs ≤ length room → sets room 0 xs ≡ xs ++ drop (length xs) room
+laid xs room h = let z : 0 + length xs ≡ length xs = zero-add (length xs) in sets-eq xs room 0 (omega arith) ∙ rw z
+
+pub fragments-in : (fs : List the.Fragment) {ms es xs ms′ es′ xs′ : List ℕ} → length fs ≤ length ms → length fs ≤ length es → length fs ≤ length xs
+    → Rows fs ms es xs ms′ es′ xs′ → fragmentsIn ms′ es′ xs′ (length fs) ≡ fs
+unfolding fragmentsIn
+fragments-in fs {ms} {es} {xs} h i j w =
+    let m = map (λ (f : the.Fragment). f .mode) fs in
+    let e = map (λ (f : the.Fragment). f .entry) fs in
+    let x = map (λ (f : the.Fragment). f .index) fs in
+    let a : length m ≤ length ms = rw (length-map fs (λ (f : the.Fragment). f .mode)) h in
+    let b : length e ≤ length es = rw (length-map fs (λ (f : the.Fragment). f .entry)) i in
+    let c : length x ≤ length xs = rw (length-map fs (λ (f : the.Fragment). f .index)) j in
+    rw (w .of-modes, w .of-entries, w .of-indexes, laid m ms a, laid e es b, laid x xs c)
+    (columns (drop (length m) ms) (drop (length e) es) (drop (length x) xs) [] [] [] fs 0 refl refl refl)
+
+pub content-in : (bs : List ℕ) (n : ℕ) (b : List ℕ) {b′ : List ℕ} → n ≡ length bs → n ≤ length b → b′ ≡ sets b 0 bs → take n b′ ≡ bs
+content-in bs n b e h i = rw (i, laid bs b (omega arith), e) (take-append-seam bs (drop (length bs) b))
+
+-- ------------------------------------------------------------------ placing one pair
+
+told-stands : (r : place.Placed) (vs ms rows : List ℕ) (o : Outcome State) → told r vs ms rows ≡ some o → stands (standingOf r) vs ms rows ≡ o
+told-stands (Through k) vs ms rows o e = cc
+told-stands (Stopped n p) vs ms rows o e = cc
+told-stands Misfit vs ms rows o e = absurd (let z : _≡_ {A = ℕ} 0 1 = cc in omega arith)
+
+module _ {l : Line} {g : Going} {table bytes areas rows : List ℕ} (w : PlaceReady l g table bytes areas rows) (ms es xs symbols vs fs : List ℕ) where
+  pub body-kept : {n p : ℕ} → g .standing ≡ Kept n p → {g′ : Going} {u : Turn} → g′ ≡ standingIn g (g .standing) → u ≡ afterOf g′
+      → Advances l g bytes ms es xs areas symbols vs fs rows u vs fs rows
+  body-kept e i j = record { standing = g .standing; answered = j ∙ ap afterOf i; says = λ radix end. rw e; sound = w .sound }
+
+  pub body-made : {k : ℕ} → g .standing ≡ Made k → {q : Filled} → q ≡ filledOf g k → {r : place.Placed} {vs′ fs′ rows′ : List ℕ}
+      → PairPlaced (fitsIn table l bytes ms areas q rows) (pairOf l bytes ms es xs areas symbols q (stateOf vs fs rows (q .fixups))) vs fs rows r vs′ fs′ rows′
+      → {s : Standing} {g′ : Going} {u : Turn} → s ≡ standingOf r → g′ ≡ standingIn g s → u ≡ afterOf g′
+      → Advances l g bytes ms es xs areas symbols vs fs rows u vs′ fs′ rows′
+  unfolding pairOf
+  body-made {k} e {q} i {r} {vs′} {fs′} {rows′} d {s} h n u =
+      let made : Sound areas (g .areas) (Made k) = rw e at (w .sound) in
+      let fit : fitsIn table l bytes ms areas q rows ≡ true = rw i (fits-when (record {
+        classes = w .classes;
+        address = w .address;
+        bytes = w .content;
+        lent = w .lent;
+        fragments = w .fragments;
+        tables = w .areas-low;
+        symbols = w .symbols-low;
+        sizes = made .1;
+        made = made .0;
+        room = w .room;
+      }) ms) in
+      record {
+        standing = standingOf r;
+        answered = u ∙ ap afterOf (n ∙ ap (standingIn g) h);
+        says = λ radix end. rw e (told-stands r vs′ fs′ rows′ _ (rw (fit, i) at (d .says radix end)));
+        sound = go r (d .few) (made .1);
+      }
+    where
+      go : (r : place.Placed) → usedNow r ≤ 1024 → total (areasIn areas (g .areas)) ≤ 65536 → Sound areas (g .areas) (standingOf r)
+      go (Through k) a b = (a, b)
+      go (Stopped n p) a b = tt
+      go Misfit a b = tt
+
+pub ruleset bodies = (needs, body-kept, body-made)
+
+-- ------------------------------------------------------------------ the pairs from here on
+
+and-and : {A B C : Type 0} (o : Outcome A) (f : A → Outcome B) (h : B → Outcome C) → andThen (andThen o f) h ≡ andThen o (λ a. andThen (f a) h)
+and-and (fine a) f h = refl
+and-and (refused n p) f h = refl
+
+and-fine : {A : Type 0} (o : Outcome A) → o ≡ andThen o (λ a. fine a)
+and-fine (fine a) = refl
+and-fine (refused n p) = refl
+
+module _ (f : Form) (t : Tables) where
+  -- one pair more
+  onward-step : (x : Taken the.Pair) (ps : List (Taken the.Pair)) (g : Going) (m next : ℕ) (on : Bool) (s : Standing) (vs ms rows vs′ ms′ rows′ : List ℕ) → fits (g .lines) x ≡ fine m
+      → stands s vs′ ms′ rows′ ≡ andThen (stands (g .standing) vs ms rows) (λ s. placePair f t s x)
+      → onward f t (x ∷ ps) g vs ms rows ≡ onward f t ps (standingIn (steppedOf g m (x .end) next on) s) vs′ ms′ rows′
+  unfolding onward fold
+  onward-step x ps g m next on s vs ms rows vs′ ms′ rows′ e h =
+      rw e (ap (λ (o : Outcome State). andThen (fold fits m ps) (λ n. andThen o (λ s. fine (record { lines = n; stop = lastOf (x .end) (endsOf ps); state = s }))))
+      (sym (and-and (stands (g .standing) vs ms rows) (λ s. placePair f t s x) (λ s. fold (placePair f t) s ps))
+      ∙ ap (λ (o : Outcome State). andThen o (λ s. fold (placePair f t) s ps)) (sym h)))
+
+  -- a pair that does not fit
+  onward-over : (x : Taken the.Pair) (ps : List (Taken the.Pair)) (g : Going) (vs ms rows : List ℕ) (n p : ℕ) → fits (g .lines) x ≡ refused n p → onward f t (x ∷ ps) g vs ms rows ≡ refused n p
+  unfolding onward fold
+  onward-over x ps g vs ms rows n p e = rw e
+
+  -- no pair
+  pub onward-end : (g : Going) (vs ms rows : List ℕ) → onward f t [] g vs ms rows ≡ toldTwo (endingOf g) vs ms rows
+  unfolding onward fold
+  onward-end g vs ms rows = go (g .standing)
+    where
+      go : (s : Standing) → andThen (andThen (stands s vs ms rows) (λ s. fine s)) (λ s. fine (record { lines = g .lines; stop = g .stop; state = s })) ≡ toldTwo (endingWith s (g .lines) (g .stop)) vs ms rows
+      go (Made k) = refl
+      go (Kept n p) = refl
+
+pub few-end : (areas : List ℕ) (na : ℕ) (s : Standing) (n stop : ℕ) → Sound areas na s → FewIn (endingWith s n stop)
+few-end areas na (Made k) n stop h = h .0
+few-end areas na (Kept x p) n stop h = tt
+
+-- the pairs at a place, by what the two lines there do
+module _ (ended : Bool) (f : Form) (text : List ℕ) (p : ℕ) where
+  at-ends : stops ≡ pairAt ended f text p → pairsAt ended f text p ≡ []
+  at-ends e = pairs-at ended f text p ∙ rw (← e)
+
+  at-takes : {body : Body} {end next : ℕ} {on : Bool} {b ms es xs b′ ms′ es′ xs′ : List ℕ} (s : StepOf (pairAt ended f text p) text p body end next on b ms es xs b′ ms′ es′ xs′)
+      → pairsAt ended f text p ≡ record { place = p; end = end; body = s .pair } ∷ pick on (pairsAt ended f text next) []
+  at-takes {body} {end} {next} {on} s = go on (s .step)
+    where
+      go : (t : Bool) → stepTo t p end (s .pair) ≡ pairAt ended f text p → pairsAt ended f text p ≡ record { place = p; end = end; body = s .pair } ∷ pick t (pairsAt ended f text next) []
+      go true k = pairs-at ended f text p ∙ rw (← k, s .behind)
+      go false k = pairs-at ended f text p ∙ rw (← k)
+
+-- a turn that is over with the pair
+module _ (ended : Bool) (f : Form) (text areas symbols : List ℕ) (p : ℕ) {o : Outcome Ended} (vs ms rows : List ℕ) (g : Going) where
+  after-is : (g .on ≡ true → Ready text areas g × (p < g .next)) → Sound areas (g .areas) (g .standing)
+      → o ≡ onward f (tablesIn areas (g .areas) symbols (g .symbols)) (pick (g .on) (pairsAt ended f text (g .next)) []) g vs ms rows
+      → TurnIs ended f text areas symbols p o (afterOf g) vs ms rows
+  unfolding onwardAt
+  after-is r s e = record { says = go (g .on) refl e }
+    where
+      go : (b : Bool) → g .on ≡ b → o ≡ onward f (tablesIn areas (g .areas) symbols (g .symbols)) (pick b (pairsAt ended f text (g .next)) []) g vs ms rows
+          → TurnSays ended f text areas symbols p o (pick b (Goes g) (Done (endingOf g))) vs ms rows
+      go true h k = record { rest = k; ready = r h .0; less = r h .1 }
+      go false h k = record { says = sym (k ∙ onward-end f (tablesIn areas (g .areas) symbols (g .symbols)) g vs ms rows); few = few-end areas (g .areas) (g .standing) (g .lines) (g .stop) s }
+
+skipped-is : (q : the.Pair) (b ms es xs b′ ms′ es′ xs′ : List ℕ) → BodyIs q Skipped b ms es xs b′ ms′ es′ xs′ → q ≡ the.skipped
+skipped-is the.skipped b ms es xs b′ ms′ es′ xs′ w = refl
+skipped-is (the.placed c r) b ms es xs b′ ms′ es′ xs′ w = absurd w
+
+-- a pair that fits, or does not
+pub record Seen (q : the.Pair) (a n ar k : ℕ) (b ms es xs b′ ms′ es′ xs′ : List ℕ) : Type 0 where
+  pub content : the.Content
+  pub relocation : the.Relocation
+  pub is : q ≡ the.placed content relocation
+  pub so : PlacedIs content relocation a n ar k b ms es xs b′ ms′ es′ xs′
+
+seen : (q : the.Pair) (a n ar k : ℕ) (b ms es xs b′ ms′ es′ xs′ : List ℕ) → BodyIs q (Placed a n ar k) b ms es xs b′ ms′ es′ xs′ → Seen q a n ar k b ms es xs b′ ms′ es′ xs′
+seen the.skipped a n ar k b ms es xs b′ ms′ es′ xs′ w = absurd w
+seen (the.placed c r) a n ar k b ms es xs b′ ms′ es′ xs′ w = record { content = c; relocation = r; is = refl; so = w }
+
+module _ (q : the.Pair) (p end lines : ℕ) {a n ar k : ℕ} {b ms es xs b′ ms′ es′ xs′ : List ℕ} (w : Seen q a n ar k b ms es xs b′ ms′ es′ xs′) where
+  over-7 : 256 < n → fits lines (record { place = p; end = end; body = q }) ≡ refused 7 p
+  unfolding fits
+  over-7 h = let i : 256 < length (w .content .bytes) = omega (arith, w .so .count) in rw (w .is, lt-leb (length (w .content .bytes)) 256 i)
+
+  module _ (h : n ≤ 256) where
+    short : length (w .content .bytes) ≤ 256
+    short = omega (arith, w .so .count)
+
+    over-8 : 64 < k → fits lines (record { place = p; end = end; body = q }) ≡ refused 8 p
+    unfolding fits
+    over-8 j = let i : 64 < length (w .relocation .fragments) = omega (arith, w .so .fragments) in rw (w .is, le-leb (length (w .content .bytes)) 256 short, lt-leb (length (w .relocation .fragments)) 64 i)
+
+    fits-both : k ≤ 64 → fits lines (record { place = p; end = end; body = q }) ≡ fine (lines + 1)
+    unfolding fits
+    fits-both j =
+        let i : length (w .relocation .fragments) ≤ 64 = omega (arith, w .so .fragments) in
+        let z : lines + 1 ≡ suc lines = omega arith in
+        rw (w .is, le-leb (length (w .content .bytes)) 256 short, le-leb (length (w .relocation .fragments)) 64 i, z)
+
+-- the turn at a place
+module _ {ended : Bool} (f : text.Form) {text areas : List ℕ} (symbols : List ℕ) {g : Going} (ready : Ready text areas g) {st : PairStep} {b ms es xs b′ ms′ es′ xs′ : List ℕ}
+    (v : PairStepIs ended (formOf f) text (g .next) st b ms es xs b′ ms′ es′ xs′) (vs fs rows : List ℕ) where
+  at-here : (ps : List (Taken the.Pair)) → pairsAt ended (formOf f) text (g .next) ≡ ps
+      → onwardAt ended (formOf f) text areas symbols g vs fs rows ≡ onward (formOf f) (tablesIn areas (g .areas) symbols (g .symbols)) ps g vs fs rows
+  unfolding onwardAt
+  at-here ps e = rw e
+
+  -- a record further, the reading goes on from there
+  ready-then : {body : Body} {end next : ℕ} {on : Bool} → StepOf (pairAt ended (formOf f) text (g .next)) text (g .next) body end next on b ms es xs b′ ms′ es′ xs′ → (m : ℕ) → m ≤ g .lines + 1
+      → (s : Standing) → Sound areas (g .areas) s → on ≡ true → Ready text areas (standingIn (steppedOf g m end next on) s) × (g .next < next)
+  ready-then o m h s i e = (
+    record { inside = o .inside; low = omega (arith, ready .low, o .more e); areas-low = ready .areas-low; symbols-low = ready .symbols-low; sound = i },
+    o .more e,
+  )
+
+  leaves : (st : PairStep) → StepSays (pairAt ended (formOf f) text (g .next)) text (g .next) st b ms es xs b′ ms′ es′ xs′ → (u : Turn) → planOf st g f ≡ Leave u
+      → TurnIs ended (formOf f) text areas symbols (g .next) (onwardAt ended (formOf f) text areas symbols g vs fs rows) u vs fs rows
+  unfolding fits placePair
+  leaves Ends y u e =
+      let d : Done (endingOf g) ≡ u = cc in
+      let t = tablesIn areas (g .areas) symbols (g .symbols) in
+      subst (λ (x : Turn). TurnIs ended (formOf f) text areas symbols (g .next) (onwardAt ended (formOf f) text areas symbols g vs fs rows) x vs fs rows) d
+      (record { says = record { says = sym (at-here [] (at-ends ended (formOf f) text (g .next) y) ∙ onward-end (formOf f) t g vs fs rows); few = few-end areas (g .areas) (g .standing) (g .lines) (g .stop) (ready .sound) } })
+  leaves (Takes Skipped end next on) y u e =
+      let d : afterOf (steppedOf g (g .lines) end next on) ≡ u = cc in
+      let t = tablesIn areas (g .areas) symbols (g .symbols) in
+      let q = skipped-is (y .pair) b ms es xs b′ ms′ es′ xs′ (y .body-is) in
+      let x : Taken the.Pair = record { place = g .next; end = end; body = y .pair } in
+      let s : stands (g .standing) vs fs rows ≡ andThen (stands (g .standing) vs fs rows) (λ s. placePair (formOf f) t s x) = rw q (and-fine (stands (g .standing) vs fs rows)) in
+      subst (λ (x : Turn). TurnIs ended (formOf f) text areas symbols (g .next) (onwardAt ended (formOf f) text areas symbols g vs fs rows) x vs fs rows) d
+      (after-is ended (formOf f) text areas symbols (g .next) vs fs rows (steppedOf g (g .lines) end next on)
+      (ready-then y (g .lines) (omega arith) (g .standing) (ready .sound)) (ready .sound)
+      (at-here _ (at-takes ended (formOf f) text (g .next) y) ∙ onward-step (formOf f) t x (pick on (pairsAt ended (formOf f) text next) []) g (g .lines) next on (g .standing) vs fs rows vs fs rows (rw q) s))
+  leaves (Takes (Placed a n ar k) end next on) y u e = go (ltb 256 n) (ltb 64 k) refl refl e
+    where
+      t : Tables
+      t = tablesIn areas (g .areas) symbols (g .symbols)
+
+      x : Taken the.Pair
+      x = record { place = g .next; end = end; body = y .pair }
+
+      w : Seen (y .pair) a n ar k b ms es xs b′ ms′ es′ xs′
+      w = seen (y .pair) a n ar k b ms es xs b′ ms′ es′ xs′ (y .body-is)
+
+      no : (c : ℕ) → fits (g .lines) x ≡ refused c (g .next) → TurnIs ended (formOf f) text areas symbols (g .next) (onwardAt ended (formOf f) text areas symbols g vs fs rows) (Done (Rejected c (g .next))) vs fs rows
+      no c h = record { says = record { says = sym (at-here _ (at-takes ended (formOf f) text (g .next) y) ∙ onward-over (formOf f) t x (pick on (pairsAt ended (formOf f) text next) []) g vs fs rows c (g .next) h); few = tt } }
+
+      go : (i j : Bool) → ltb 256 n ≡ i → ltb 64 k ≡ j
+          → pick i (overOf 7 (g .next)) (pick j (overOf 8 (g .next)) (Place (lineFor f (g .next) a n ar k) (steppedOf g (g .lines + 1) end next on))) ≡ Leave u
+          → TurnIs ended (formOf f) text areas symbols (g .next) (onwardAt ended (formOf f) text areas symbols g vs fs rows) u vs fs rows
+      go true j p q h =
+          let d : Done (Rejected 7 (g .next)) ≡ u = cc in
+          subst (λ (x : Turn). TurnIs ended (formOf f) text areas symbols (g .next) (onwardAt ended (formOf f) text areas symbols g vs fs rows) x vs fs rows) d (no 7 (over-7 (y .pair) (g .next) end (g .lines) w (ltb-true 256 n p)))
+      go false true p q h =
+          let d : Done (Rejected 8 (g .next)) ≡ u = cc in
+          subst (λ (x : Turn). TurnIs ended (formOf f) text areas symbols (g .next) (onwardAt ended (formOf f) text areas symbols g vs fs rows) x vs fs rows) d (no 8 (over-8 (y .pair) (g .next) end (g .lines) w (ltb-false 256 n p) (ltb-true 64 k q)))
+      go false false p q h = absurd (let z : _≡_ {A = ℕ} 0 1 = cc in omega arith)
+
+  pub turn-leaves : {pl : Plan} → pl ≡ planOf st g f → {u : Turn} → pl ≡ Leave u → {r : Turn} → r ≡ turnOf pl
+      → TurnIs ended (formOf f) text areas symbols (g .next) (onwardAt ended (formOf f) text areas symbols g vs fs rows) r vs fs rows
+  turn-leaves e {u} i j = rw (j, i) (leaves st (v .says) u (sym e ∙ i))
+
+-- a plan to place: what was read
+pub record Planned (st : PairStep) (g : Going) (f : text.Form) (l : Line) (g′ : Going) : Type 0 where
+  pub address : ℕ
+  pub count : ℕ
+  pub area : ℕ
+  pub fragments : ℕ
+  pub end : ℕ
+  pub next : ℕ
+  pub on : Bool
+  pub step : st ≡ Takes (Placed address count area fragments) end next on
+  pub line : lineFor f (g .next) address count area fragments ≡ l
+  pub going : steppedOf g (g .lines + 1) end next on ≡ g′
+  pub short : count ≤ 256
+  pub few : fragments ≤ 64
+
+planned : (st : PairStep) (g : Going) (f : text.Form) (l : Line) (g′ : Going) → planOf st g f ≡ Place l g′ → Planned st g f l g′
+planned Ends g f l g′ e = absurd (let z : _≡_ {A = ℕ} 0 1 = cc in omega arith)
+planned (Takes Skipped end next on) g f l g′ e = absurd (let z : _≡_ {A = ℕ} 0 1 = cc in omega arith)
+planned (Takes (Placed a n ar k) end next on) g f l g′ e = go (ltb 256 n) (ltb 64 k) refl refl e
+  where
+    go : (i j : Bool) → ltb 256 n ≡ i → ltb 64 k ≡ j
+        → pick i (overOf 7 (g .next)) (pick j (overOf 8 (g .next)) (Place (lineFor f (g .next) a n ar k) (steppedOf g (g .lines + 1) end next on))) ≡ Place l g′
+        → Planned (Takes (Placed a n ar k) end next on) g f l g′
+    go true j p q h = absurd (let z : _≡_ {A = ℕ} 0 1 = cc in omega arith)
+    go false true p q h = absurd (let z : _≡_ {A = ℕ} 0 1 = cc in omega arith)
+    go false false p q h = record {
+      address = a;
+      count = n;
+      area = ar;
+      fragments = k;
+      end = end;
+      next = next;
+      on = on;
+      step = refl;
+      line = cc;
+      going = cc;
+      short = ltb-false 256 n p;
+      few = ltb-false 64 k q;
+    }
+
+width-low : (w : Width) → suc (moreOf w) ≤ 4
+width-low wide.Two = omega arith
+width-low wide.Three = omega arith
+width-low wide.Four = omega arith
+
+pub zeros-256 : length {A = ℕ} (replicate 256 0) ≡ 256
+zeros-256 = length-replicate {A = ℕ} 256 0
+
+pub zeros-64 : length {A = ℕ} (replicate 64 0) ≡ 64
+zeros-64 = length-replicate {A = ℕ} 64 0
+
+module _ {ended : Bool} (f : text.Form) {text areas : List ℕ} {g : Going} (ready : Ready text areas g) {st : PairStep} {b ms es xs b′ ms′ es′ xs′ : List ℕ}
+    (v : PairStepIs ended (formOf f) text (g .next) st b ms es xs b′ ms′ es′ xs′) {pl : Plan} (e : pl ≡ planOf st g f) {l : Line} {g′ : Going} (i : pl ≡ Place l g′) (z : length b ≡ 256) where
+  plan : Planned st g f l g′
+  plan = planned st g f l g′ (sym e ∙ i)
+
+  here : StepOf (pairAt ended (formOf f) text (g .next)) text (g .next) (Placed (plan .address) (plan .count) (plan .area) (plan .fragments)) (plan .end) (plan .next) (plan .on) b ms es xs b′ ms′ es′ xs′
+  here = rw (plan .step) at (v .says)
+
+  w : Seen (here .pair) (plan .address) (plan .count) (plan .area) (plan .fragments) b ms es xs b′ ms′ es′ xs′
+  w = seen (here .pair) (plan .address) (plan .count) (plan .area) (plan .fragments) b ms es xs b′ ms′ es′ xs′ (here .body-is)
+
+  pub turn-ready : {table rows : List ℕ} → table ≡ classTable → 9216 ≤ length rows → PlaceReady l g′ table b′ areas rows
+  turn-ready {table} {rows} h j =
+      let long : length b′ ≡ length b = rw (w .so .bytes) (length-sets b 0 (w .content .bytes)) in
+      subst (λ (x : Line). PlaceReady x g′ table b′ areas rows) (plan .line)
+      (subst (λ (x : Going). PlaceReady (lineFor f (g .next) (plan .address) (plan .count) (plan .area) (plan .fragments)) x table b′ areas rows) (plan .going)
+      (record {
+        classes = h;
+        address = width-low (f .width);
+        content = plan .short;
+        lent = omega (arith, plan .short);
+        fragments = plan .few;
+        areas-low = ready .areas-low;
+        symbols-low = ready .symbols-low;
+        sound = ready .sound;
+        room = j;
+      }))
+
+  module _ (zm : length ms ≡ 64) (ze : length es ≡ 64) (zx : length xs ≡ 64) where
+    body-eq : the.placed (contentOf (lineFor f (g .next) (plan .address) (plan .count) (plan .area) (plan .fragments)) b′) (record { area = plan .area; fragments = fragmentsIn ms′ es′ xs′ (plan .fragments) }) ≡ here .pair
+    body-eq =
+        let few = plan .few in
+        let long : length (w .relocation .fragments) ≤ 64 = omega (arith, w .so .fragments) in
+        let c : contentOf (lineFor f (g .next) (plan .address) (plan .count) (plan .area) (plan .fragments)) b′ ≡ w .content =
+        λ j. record { address = w .so .address j; bytes = content-in (w .content .bytes) (plan .count) b (w .so .count) (omega (arith, plan .short)) (w .so .bytes) j } in
+        let fs : fragmentsIn ms′ es′ xs′ (plan .fragments) ≡ w .relocation .fragments =
+        ap (fragmentsIn ms′ es′ xs′) (w .so .fragments) ∙ fragments-in (w .relocation .fragments) (omega arith) (omega arith) (omega arith) (w .so .rows) in
+        let r : _≡_ {A = the.Relocation} (record { area = plan .area; fragments = fragmentsIn ms′ es′ xs′ (plan .fragments) }) (w .relocation) = λ j. record { area = w .so .area j; fragments = fs j } in
+        (λ j. the.placed (c j) (r j)) ∙ sym (w .is)
+
+    pub turn-places : (symbols : List ℕ) {vs fs rows : List ℕ} {r : Turn} {vs′ fs′ rows′ : List ℕ} → Advances l g′ b′ ms′ es′ xs′ areas symbols vs fs rows r vs′ fs′ rows′
+        → TurnIs ended (formOf f) text areas symbols (g .next) (onwardAt ended (formOf f) text areas symbols g vs fs rows) r vs′ fs′ rows′
+    unfolding pairOf
+    turn-places symbols {vs} {fs} {rows} {r} {vs′} {fs′} {rows′} d =
+        let line = lineFor f (g .next) (plan .address) (plan .count) (plan .area) (plan .fragments) in
+        let going = steppedOf g (g .lines + 1) (plan .end) (plan .next) (plan .on) in
+        let a : Advances line going b′ ms′ es′ xs′ areas symbols vs fs rows r vs′ fs′ rows′ =
+        subst (λ (x : Line). Advances x going b′ ms′ es′ xs′ areas symbols vs fs rows r vs′ fs′ rows′) (sym (plan .line))
+        (subst (λ (x : Going). Advances l x b′ ms′ es′ xs′ areas symbols vs fs rows r vs′ fs′ rows′) (sym (plan .going)) d) in
+        let t = tablesIn areas (g .areas) symbols (g .symbols) in
+        let x : Taken the.Pair = record { place = g .next; end = plan .end; body = here .pair } in
+        let h : stands (a .standing) vs′ fs′ rows′ ≡ andThen (stands (g .standing) vs fs rows) (λ s. placePair (formOf f) t s x) =
+        a .says (f .radix) (plan .end) ∙ ap (λ (q : the.Pair). andThen (stands (g .standing) vs fs rows) (λ s. placePair (formOf f) t s (record { place = g .next; end = plan .end; body = q }))) body-eq in
+        subst (λ (u : Turn). TurnIs ended (formOf f) text areas symbols (g .next) (onwardAt ended (formOf f) text areas symbols g vs fs rows) u vs′ fs′ rows′) (sym (a .answered))
+        (after-is ended (formOf f) text areas symbols (g .next) vs′ fs′ rows′ (standingIn going (a .standing))
+        (ready-then f symbols ready v vs fs rows here (g .lines + 1) (omega arith) (a .standing) (a .sound)) (a .sound)
+        (at-here f symbols ready v vs fs rows _ (at-takes ended (formOf f) text (g .next) here)
+        ∙ onward-step (formOf f) t x (pick (plan .on) (pairsAt ended (formOf f) text (plan .next)) []) g (g .lines + 1) (plan .next) (plan .on) (a .standing) vs fs rows vs′ fs′ rows′
+        (fits-both (here .pair) (g .next) (plan .end) (g .lines) w (plan .short) (plan .few)) h))
+
+-- what a turn asks on the way
+pub ready-inside : {text areas : List ℕ} {g : Going} → Ready text areas g → g .next ≤ length text
+ready-inside w = w .inside
+
+pub ready-low : {text areas : List ℕ} {g : Going} → Ready text areas g → length text ≤ 65536 → g .lines ≤ 65536
+ready-low w h = omega (arith, w .low, w .inside)
+
+pub ruleset turns = (needs, zeros-256, zeros-64, ready-inside, ready-low, turn-leaves, turn-ready, turn-places)
+
+-- ------------------------------------------------------------------ the loop
+
+pub record Rounds (ended : Bool) (f : Form) (text areas symbols : List ℕ) (g₀ : Going) (vs₀ ms₀ rows₀ : List ℕ) (g : Going) (vs ms rows : List ℕ) : Type 0 where
+  pub rest : onwardAt ended f text areas symbols g₀ vs₀ ms₀ rows₀ ≡ onwardAt ended f text areas symbols g vs ms rows
+  pub ready : Ready text areas g
+  pub values-long : length vs ≡ length vs₀
+  pub masks-long : length ms ≡ length ms₀
+  pub rows-long : length rows ≡ length rows₀
+
+pub round-start : (ended : Bool) (f : Form) (text areas symbols : List ℕ) (g : Going) (vs ms rows : List ℕ) → Ready text areas g → Rounds ended f text areas symbols g vs ms rows g vs ms rows
+round-start ended f text areas symbols g vs ms rows w = record { rest = refl; ready = w; values-long = refl; masks-long = refl; rows-long = refl }
+
+module _ {ended : Bool} {f : Form} {text areas symbols : List ℕ} {g₀ : Going} {vs₀ ms₀ rows₀ : List ℕ} {g : Going} {vs ms rows : List ℕ}
+    (w : Rounds ended f text areas symbols g₀ vs₀ ms₀ rows₀ g vs ms rows) where
+  pub round-ready : Ready text areas g
+  round-ready = w .ready
+
+  pub round-room : 9216 ≤ length rows₀ → 9216 ≤ length rows
+  round-room h = omega (arith, w .rows-long)
+
+  module _ {u : Turn} {vs′ ms′ rows′ : List ℕ} (v : TurnIs ended f text areas symbols (g .next) (onwardAt ended f text areas symbols g vs ms rows) u vs′ ms′ rows′) where
+    pub round-done : {two : Two} → u ≡ Done two → {r : Two} → r ≡ twoOf u → GroupedTwo (onwardAt ended f text areas symbols g₀ vs₀ ms₀ rows₀) r vs′ ms′ rows′
+    round-done {two} e i =
+        let k : GroupedTwo (onwardAt ended f text areas symbols g vs ms rows) two vs′ ms′ rows′ = rw e at (v .says) in
+        rw (i, e) (record { says = k .says ∙ sym (w .rest); few = k .few })
+
+    module _ {g′ : Going} (e : u ≡ Goes g′) where
+      on : GoesOn ended f text areas symbols (g .next) (onwardAt ended f text areas symbols g vs ms rows) g′ vs′ ms′ rows′
+      on = rw e at (v .says)
+
+      pub round-less : length text - g′ .next < length text - g .next
+      round-less = omega (arith, on .less, on .ready .inside)
+
+      pub round-again : length vs′ ≡ length vs → length ms′ ≡ length ms → length rows′ ≡ length rows → Rounds ended f text areas symbols g₀ vs₀ ms₀ rows₀ g′ vs′ ms′ rows′
+      round-again a b c = record { rest = w .rest ∙ on .rest; ready = on .ready; values-long = a ∙ w .values-long; masks-long = b ∙ w .masks-long; rows-long = c ∙ w .rows-long }
+
+pub ruleset rounds = (needs, round-start, round-ready, round-room, round-done, round-less, round-again)

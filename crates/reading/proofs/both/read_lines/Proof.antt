@@ -1,0 +1,56 @@
+use Rattle.reading.proofs.Laid.{lines}
+use Rattle.reading.proofs.both.read_lines.Statement.{statement}
+use Rattle.reading.proofs.both.read_lines.Tie as tie
+
+group-one-requires : tie.Need-group-one-requires
+group-one-requires c κs = search lines
+
+enum-known-one : tie.Need-enum-known-one
+enum-known-one c = search lines
+
+enum-told : tie.Need-enum-told
+enum-told c = search lines
+
+refuse-one-requires : tie.Need-refuse-one-requires
+refuse-one-requires c κs = search lines
+
+returns : tie.Need-returns
+returns c = search lines
+
+rest-requires : tie.Need-rest-requires
+rest-requires c κs = search lines
+
+same-length : tie.Need-same-length
+same-length c = search lines
+
+same-length-2 : tie.Need-same-length-2
+same-length-2 c = search lines
+
+same-length-3 : tie.Need-same-length-3
+same-length-3 c = search lines
+
+same-length-4 : tie.Need-same-length-4
+same-length-4 c = search lines
+
+same-length-5 : tie.Need-same-length-5
+same-length-5 c = search lines
+
+returns-2 : tie.Need-returns-2
+returns-2 c = search lines
+
+pub read-lines-spec : {M : Type 1} → statement M
+read-lines-spec =
+    tie.close
+    (tie.spec
+    group-one-requires
+    enum-known-one
+    enum-told
+    refuse-one-requires
+    returns
+    rest-requires
+    same-length
+    same-length-2
+    same-length-3
+    same-length-4
+    same-length-5
+    returns-2)

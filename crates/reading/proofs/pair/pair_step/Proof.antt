@@ -1,0 +1,61 @@
+use Rattle.reading.proofs.PairLines.{psteps}
+use Rattle.reading.proofs.PairLines.{pused-in}
+use Rattle.reading.proofs.pair.pair_step.Statement.{statement}
+use Rattle.reading.proofs.pair.pair_step.Tie as tie
+
+line-at-requires : tie.Need-line-at-requires
+line-at-requires c κs = search psteps
+
+returns : tie.Need-returns
+returns c = search psteps
+
+line-at-requires-2 : tie.Need-line-at-requires-2
+line-at-requires-2 c κs = search psteps
+
+sub-read-pair : tie.Need-sub-read-pair
+sub-read-pair c = search psteps
+
+part-read-pair-start : tie.Need-part-read-pair-start
+part-read-pair-start c = search psteps
+
+part-read-pair-end : tie.Need-part-read-pair-end
+part-read-pair-end c = search psteps
+
+sub-read-pair-2 : tie.Need-sub-read-pair-2
+sub-read-pair-2 c = search psteps
+
+part-read-pair-start-2 : tie.Need-part-read-pair-start-2
+part-read-pair-start-2 c = search psteps
+
+part-read-pair-end-2 : tie.Need-part-read-pair-end-2
+part-read-pair-end-2 c = search psteps
+
+sub-read-pair-3 : tie.Need-sub-read-pair-3
+sub-read-pair-3 c = search psteps
+
+read-pair-requires : tie.Need-read-pair-requires
+read-pair-requires c κs = search psteps
+
+step-from-requires : tie.Need-step-from-requires
+step-from-requires c κs = let k = c .before .before .before .before .before .before .before in let l = k .before .before .before in let a = l .before .before in (search psteps, pused-in _ (a .args .t .now) (a .args .p) (l .line-at .ensures) (k .line-at2 .ensures) (c .read-pair .ensures) (a .pre .1))
+
+returns-2 : tie.Need-returns-2
+returns-2 c = search psteps
+
+pub pair-step-spec : {M : Type 1} → statement M
+pair-step-spec =
+    tie.close
+    (tie.spec
+    line-at-requires
+    returns
+    line-at-requires-2
+    sub-read-pair
+    part-read-pair-start
+    part-read-pair-end
+    sub-read-pair-2
+    part-read-pair-start-2
+    part-read-pair-end-2
+    sub-read-pair-3
+    read-pair-requires
+    step-from-requires
+    returns-2)

@@ -1,0 +1,18 @@
+use Rattle.reading.proofs.Laid.{outs}
+use Rattle.reading.proofs.rows_out.copy_fixups.Statement.{statement}
+use Rattle.reading.proofs.rows_out.copy_fixups.Tie as tie
+
+cast-by-area : tie.Need-cast-by-area
+cast-by-area c = search outs
+
+by-area-requires : tie.Need-by-area-requires
+by-area-requires c κs = search outs
+
+same-length : tie.Need-same-length
+same-length c = search outs
+
+returns : tie.Need-returns
+returns c = search outs
+
+pub copy-fixups-spec : {M : Type 1} → statement M
+copy-fixups-spec = tie.close (tie.spec cast-by-area by-area-requires same-length returns)

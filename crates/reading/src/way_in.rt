@@ -1,0 +1,69 @@
+// The way in: refusals 1 to 3.
+ghost use mathlib.Core.Path.{_≡_};
+ghost use lib.ListN.{length};
+ghost use Rattle.format.specs.Reading.{firstHigh};
+ghost use Rattle.reading.specs.WayIn.{highOf, roomy, GateIs};
+
+// How long the lent buffers are.
+pub(crate) struct Lent {
+    pub(crate) areas: usize,
+    pub(crate) symbols: usize,
+    pub(crate) values: usize,
+    pub(crate) masks: usize,
+    pub(crate) fixups: usize,
+}
+
+pub(crate) enum Gate {
+    Open,
+    Shut { number: u32, at: usize },
+}
+
+// The place of the first byte above 127, or the text's end.
+fn first_high(t: &[u8]) -> usize
+    ensures { λ r. ⌜ firstHigh 0 (now (t .entry)) ≡ highOf (length (now (t .entry))) r ⌝ }
+{
+    let mut i = 0;
+    while i < t.len() {
+        if 128 <= t[i] {
+            return i;
+        }
+        i += 1;
+    }
+    i
+}
+
+// Whether each lent buffer has room for its bound.
+fn has_room(lent: Lent) -> bool
+    ensures { λ r. ⌜ r ≡ roomy lent ⌝ }
+{
+    if lent.areas < 384 {
+        return false;
+    }
+    if lent.symbols < 5120 {
+        return false;
+    }
+    if lent.values < 65536 {
+        return false;
+    }
+    if lent.masks < 65536 {
+        return false;
+    }
+    9216 <= lent.fixups
+}
+
+// 1 to 3.
+pub(crate) fn admit(t: &[u8], lent: Lent) -> Gate
+    ensures { λ r. ⌜ GateIs lent (now (t .entry)) r ⌝ }
+{
+    if !has_room(lent) {
+        return Gate::Shut { number: 1, at: 0 };
+    }
+    if 65536 < t.len() {
+        return Gate::Shut { number: 2, at: 0 };
+    }
+    let h = first_high(t);
+    if h < t.len() {
+        return Gate::Shut { number: 3, at: h };
+    }
+    Gate::Open
+}
