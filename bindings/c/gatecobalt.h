@@ -1,0 +1,111 @@
+/* Gatecobalt: a proved reader of SDCC's object modules (ASxxxx, ASLINK 3).
+ *
+ * Every function answers for every argument that its types allow: pointers have to be valid for so
+ * many elements as the length behind them says (a length of 0 asks nothing), and no two lent
+ * buffers may overlap one another or the text. A reading takes under 512 KiB of stack and no heap.
+ * Link libexports.a, which `rt staticlib exports` writes. */
+#ifndef GATECOBALT_H
+#define GATECOBALT_H
+
+#include <stdbool.h>
+#include <stddef.h>
+#include <stdint.h>
+
+#ifdef __cplusplus
+extern "C" {
+#endif
+
+/* The longest text, in bytes. */
+#define GATECOBALT_TEXT 65536
+
+/* Numbers in a row. An area: its name's place and length in the text, size, flags, 1 if addr is
+ * given, addr or 0. A symbol: its name's place and length, 1 for Ref or 0 for Def, value, the index
+ * of its area plus 1 or 0 for none. A fixup: the id of its area, position, size, mode, 1 for an
+ * outside symbol or 0 for a kept area, that name's place or that area's id, the name's length or 0,
+ * value, number. */
+#define GATECOBALT_AREA_WIDTH 6
+#define GATECOBALT_SYMBOL_WIDTH 5
+#define GATECOBALT_FIXUP_WIDTH 9
+
+/* The room that each lent buffer has to have, in elements; a shorter one gives refusal 1. */
+#define GATECOBALT_AREAS (64 * GATECOBALT_AREA_WIDTH)
+#define GATECOBALT_SYMBOLS (1024 * GATECOBALT_SYMBOL_WIDTH)
+#define GATECOBALT_VALUES 65536
+#define GATECOBALT_MASKS 65536
+#define GATECOBALT_FIXUPS (1024 * GATECOBALT_FIXUP_WIDTH)
+
+/* A reading's answer. A refusal: its number (1 to 13) and place, all else 0; no lent buffer has
+ * changed. Otherwise refusal is 0, the counts say how much there is, finished is 1 if no byte is
+ * left, else 0 and place is that of the next byte. The rows stand first in their buffers, and so do
+ * the values and masks of all kept areas, one area behind the other; behind them the buffers keep
+ * their bytes. */
+typedef struct {
+    uint32_t refusal;
+    uint32_t finished;
+    size_t place;
+    size_t areas;
+    size_t symbols;
+    size_t lines; /* T and R pairs */
+    size_t kept; /* code areas with size above 0; an area's id is its rank among them */
+    size_t positions; /* the sizes of kept areas together */
+    size_t fixups;
+} gatecobalt_reading;
+
+/* What a header tells: refusal is 4 if there is none, else 0; radix 16, 10 or 8; big is 1 if the
+ * highest byte comes first; width is the bytes of an address. */
+typedef struct {
+    uint32_t refusal;
+    uint32_t radix;
+    uint32_t big;
+    uint32_t width;
+} gatecobalt_heading;
+
+/* A target's answer: 14 and 0, or 0 and the target. */
+typedef struct {
+    uint32_t refusal;
+    uint64_t target;
+} gatecobalt_targeted;
+
+typedef struct {
+    size_t area;
+    size_t symbol;
+    size_t fixup;
+} gatecobalt_row_widths;
+
+typedef struct {
+    size_t text;
+    size_t areas;
+    size_t symbols;
+    size_t values;
+    size_t masks;
+    size_t fixups;
+} gatecobalt_room;
+
+/* The plain reading: it ends at the first byte that it cannot take. */
+gatecobalt_reading gatecobalt_read_plain(const uint8_t *text, size_t text_length,
+    uint32_t *areas, size_t areas_length, uint32_t *symbols, size_t symbols_length,
+    uint8_t *values, size_t values_length, uint8_t *masks, size_t masks_length,
+    uint32_t *fixups, size_t fixups_length);
+
+/* The ended reading: a record counts only with the line end behind it. */
+gatecobalt_reading gatecobalt_read_ended(const uint8_t *text, size_t text_length,
+    uint32_t *areas, size_t areas_length, uint32_t *symbols, size_t symbols_length,
+    uint8_t *values, size_t values_length, uint8_t *masks, size_t masks_length,
+    uint32_t *fixups, size_t fixups_length);
+
+/* A text's header. */
+gatecobalt_heading gatecobalt_header(const uint8_t *text, size_t text_length);
+
+/* What the bytes of a fixup refer to where they stand at an address: mode and number are the
+ * fixup's, big is the header's. */
+gatecobalt_targeted gatecobalt_target(uint32_t mode, bool big, uint32_t number, uint64_t address,
+    const uint8_t *bytes, size_t bytes_length);
+
+/* The widths and rooms above, as the library has them. */
+gatecobalt_row_widths gatecobalt_widths(void);
+gatecobalt_room gatecobalt_rooms(void);
+
+#ifdef __cplusplus
+}
+#endif
+#endif

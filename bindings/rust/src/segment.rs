@@ -1,0 +1,87 @@
+//! What was read, in the shape of the old module: segments with content and mask, absolute or
+//! relocatable, fixups with a target function and a reference, and public symbols.
+use crate::reader::target;
+use crate::reading::{FixupRow, Kept, Reading};
+use crate::refusal::Refusal;
+
+/// What a fixup refers to.
+#[derive(Clone, Debug, PartialEq, Eq)]
+pub enum Reference {
+    /// A public symbol of another module, and a value to add.
+    Public(String, usize),
+    /// A segment by its id, and a place in it.
+    Segment(usize, usize),
+}
+
+/// A place of a segment that the linker fills in.
+#[derive(Clone, Debug, PartialEq, Eq)]
+pub struct Fixup {
+    /// Where it lies in its segment.
+    pub position: usize,
+    /// Its bytes on site.
+    pub size: usize,
+    /// What it refers to.
+    pub reference: Reference,
+    mode: u32,
+    number: u32,
+    big: bool,
+}
+
+impl Fixup {
+    /// A fixup's row, its reference counted from the module's first id.
+    fn new(row: FixupRow, big: bool, first: usize) -> Self {
+        let value = row.value as usize;
+        let reference = match row.refers {
+            Ok(name) => Reference::Public(name.to_string(), value),
+            Err(id) => Reference::Segment(first + id, value),
+        };
+        let FixupRow { position, size, mode, number, .. } = row;
+        Fixup { position, size, reference, mode, number, big }
+    }
+
+    /// What the bytes on site refer to where they stand at an address, or refusal 14 if they are
+    /// fewer than the fixup's size.
+    pub fn target(&self, bytes: &[u8], address: usize) -> Result<usize, Refusal> {
+        let address = address as u64;
+        target(self.mode, self.big, self.number, address, bytes).map(|target| target as usize)
+    }
+
+    /// The target function alone, as the old module hands it over. As there, it panics if it is
+    /// given fewer bytes than the fixup's size.
+    pub fn function(&self) -> impl Fn(&[u8], usize) -> usize + 'static {
+        let fixup = self.clone();
+        move |bytes, address| fixup.target(bytes, address).expect("as many bytes as the size says")
+    }
+}
+
+/// A kept area.
+#[derive(Clone, Debug, PartialEq, Eq)]
+pub struct Segment {
+    /// Where it stands, if it is absolute.
+    pub base: Option<usize>,
+    /// Value and mask a position.
+    pub content: Vec<(u8, u8)>,
+    /// Its fixups in the order made.
+    pub fixups: Vec<Fixup>,
+    /// Its public symbols.
+    pub symbols: Vec<(String, usize)>,
+}
+
+impl Reading<'_> {
+    /// The kept areas as segments. The first has the id `first`; over the modules of a library a
+    /// caller counts on.
+    pub fn segments(&self, first: usize) -> Vec<Segment> {
+        self.kept().map(|kept| self.segment(&kept, first)).collect()
+    }
+
+    /// One kept area as a segment.
+    fn segment(&self, kept: &Kept, first: usize) -> Segment {
+        let base = kept.area.absolute().then(|| kept.area.addr.unwrap_or(0) as usize);
+        let content = kept.values.iter().copied().zip(kept.masks.iter().copied()).collect();
+        let own = self.fixups().filter(|row| row.home == kept.id);
+        let fixups = own.map(|row| Fixup::new(row, self.header.big == 1, first)).collect();
+        let symbols = self.symbols().filter(|symbol| symbol.area == Some(kept.index));
+        let symbols = symbols.map(|symbol| (symbol.name.to_string(), symbol.value as usize));
+        Segment { base, content, fixups, symbols: symbols.collect() }
+    }
+}

@@ -1,0 +1,41 @@
+use Rattle.exports.proofs.Laws.{numbers}
+use Rattle.exports.proofs.answers.header_numbers.Statement.{statement}
+use Rattle.exports.proofs.answers.header_numbers.Tie as tie
+use Rattle.exports.proofs.answers.header_numbers.Reads as reads
+use Rattle.exports.proofs.answers.header_numbers.Lts as lts
+use Rattle.exports.proofs.answers.address_length.Reads as address-length-reads
+use Rattle.exports.proofs.answers.flag_of.Reads as flag-of-reads
+use Rattle.exports.proofs.answers.wide.Reads as wide-reads
+
+enum-known-head : tie.Need-enum-known-head
+enum-known-head c = search numbers
+
+enum-told : tie.Need-enum-told
+enum-told c = search numbers
+
+returns : tie.Need-returns
+returns c = search numbers
+
+wide-requires : tie.Need-wide-requires
+wide-requires c κs = search numbers
+
+flag-of-requires : tie.Need-flag-of-requires
+flag-of-requires c κs = search numbers
+
+address-length-requires : tie.Need-address-length-requires
+address-length-requires c κs = search numbers
+
+returns-2 : tie.Need-returns-2
+returns-2 c = search numbers
+
+pub header-numbers-spec : {M : Type 1} → statement M
+header-numbers-spec =
+    tie.close
+    (tie.spec
+    enum-known-head
+    enum-told
+    returns
+    wide-requires
+    flag-of-requires
+    address-length-requires
+    returns-2)
