@@ -28,7 +28,7 @@ use Rattle.target.specs.declared.answer.Answer as target
 use Rattle.target.specs.declared.answer.Answer.the-variants.{At, Refused}
 use Rattle.exports.specs.Numbers.{Answers, acceptedNumbers, countedNumbers, headerNumbers, readNumbers, refusedNumbers, targetNumbers}
 use Rattle.exports.specs.declared.answers.HeaderNumbers.{HeaderNumbers}
-use Rattle.exports.specs.declared.answers.ReadNumbers.{ReadNumbers}
+use Rattle.exports.specs.declared.readings.ReadNumbers.{ReadNumbers}
 use Rattle.exports.specs.declared.answers.TargetNumbers.{TargetNumbers}
 
 pub finished-numbers : {v : Verdict} {c : the.Counts} {r : ReadNumbers} → v ≡ Finished → r ≡ countedNumbers c 1 0 → r ≡ acceptedNumbers c (toldVerdict v)

@@ -13,7 +13,7 @@ use Rattle.format.specs.Rows.{areaColumns, fixupColumns, flag, symbolColumns}
 use Rattle.format.specs.Reading.{Answer, Counts, accepted, reading, refusal}
 use Rattle.format.specs.Held.{Held, lengths}
 use Rattle.exports.specs.declared.answers.HeaderNumbers.{HeaderNumbers}
-use Rattle.exports.specs.declared.answers.ReadNumbers.{ReadNumbers}
+use Rattle.exports.specs.declared.readings.ReadNumbers.{ReadNumbers}
 use Rattle.exports.specs.declared.answers.TargetNumbers.{TargetNumbers}
 use Rattle.exports.specs.declared.Rooms.{Rooms}
 use Rattle.exports.specs.declared.Widths.{Widths}

@@ -1,6 +1,7 @@
 // What C and Rust link: both readings, the target of a fixup, and how much a caller has to lend,
 // over numbers and slices. Every function answers for every input; none asks anything of its caller.
 mod answers;
+mod readings;
 
 ghost use mathlib.Core.Path.{_≡_};
 ghost use mathlib.Core.Bool.{true, false};
@@ -9,11 +10,11 @@ ghost use Rattle.format.specs.Target as the;
 ghost use Rattle.reading.specs.Answer.{held};
 ghost use Rattle.exports.specs.Numbers.{Answers, headerNumbers, rooms, targetNumbers, widths};
 pub use answers::HeaderNumbers;
-pub use answers::ReadNumbers;
 pub use answers::TargetNumbers;
 use answers::header_numbers;
-use answers::read_numbers;
 use answers::target_numbers;
+pub use readings::ReadNumbers;
+use readings::read_numbers;
 
 // Numbers in a row of each table.
 #[repr(C)]

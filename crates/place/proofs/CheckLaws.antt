@@ -3,19 +3,18 @@
 use Prim.Native.Nat.{ℕ, zero, suc, _+_, _-_, _≤_, _<_}
 use mathlib.Core.Path.{_≡_, refl, sym, ap, _∙_}
 use mathlib.Core.Bool.{Bool, true, false}
-use mathlib.Core.List.{List, [], _∷_}
-use mathlib.Core.Option.{Option, none, some}
+use mathlib.Core.List.{List}
 use native.Mathlib.Numerals.{add-one}
 use native.Mathlib.Omega.{arith}
 use mir.Val.{Fits}
 use mir.Syntax.{w32, w64}
-use lib.Dec.{eqb, ltb}
+use lib.Dec.{eqb}
 use lib.ListN.{getD}
 use borrow.Author.Needs.{needs}
 use borrow.Author.Tests.{lt-ltb, le-ltb, eq-eqb, ne-eqb}
 use Rattle.format.specs.Lists.{pick}
 use Rattle.format.specs.Pairs.{Fragment}
-use Rattle.format.specs.Outcome.{Outcome, fine, refused, andThen}
+use Rattle.format.specs.Outcome.{fine, andThen}
 use Rattle.format.specs.Tables.{Tables}
 use Rattle.laws.specs.Rows.{from}
 use Rattle.place.specs.declared.site.Site.{Site}
@@ -25,9 +24,9 @@ use Rattle.place.specs.declared.references.Reference.{Reference}
 use Rattle.place.specs.declared.references.Refers.{Refers}
 use Rattle.place.specs.declared.references.Refers.the-variants.{Missing, Nothing, To}
 use Rattle.place.specs.References as ref
-use Rattle.place.specs.References.{refersAt, refersIn}
+use Rattle.place.specs.References.{refersIn}
 use Rattle.place.specs.Columns.{fragmentAt, fragmentsIn}
-use Rattle.place.specs.Check.{countOne, countTo, countFor, countsAt, countWalk, tablesOf, countEntry, countLine, toldCount, usedBy, Tallied}
+use Rattle.place.specs.Check.{countOne, countFor, countsAt, countWalk, tablesOf, countEntry, countLine, toldCount, Tallied}
 use Rattle.place.specs.Walk.{Ready}
 use Rattle.place.proofs.NamedLaws.{named-at}
 
@@ -206,30 +205,3 @@ module _ {ms es xs areas symbols : List ℕ} {s : Site} {keeps : List ℕ} {n k 
     }
 
 pub ruleset checking = (needs, line-fits, line-narrow, checking-start, checking-end, checking-room, checking-ready, entry-fits, grow-fits, checking-out, checking-stop, checking-more)
-
--- `check_pair`
-none-at : (t : Tables) (n entry i k place : ℕ) → countsAt t n entry i [] k place ≡ fine k
-unfolding countsAt
-none-at t n entry i k place = refl
-
-nothing : (t : Tables) (n size : ℕ) (keeps : List ℕ) (m e p k place : ℕ) → countWalk t n size [] keeps m e p k place ≡ fine k
-unfolding countWalk
-nothing t n size keeps zero e p k place = refl
-nothing t n size keeps (suc m) e p k place = go (ltb p size)
-    (rw (none-at t n e 0 k place) (nothing t n size keeps m (suc e) (p + pick (eqb (getD keeps e 0) 1) 1 0) k place))
-  where
-    go : (b : Bool) → andThen (countsAt t n e 0 [] k place) (λ j. countWalk t n size [] keeps m (suc e) (p + pick (eqb (getD keeps e 0) 1) 1 0) j place) ≡ fine k
-        → pick b (andThen (countsAt t n e 0 [] k place) (λ j. countWalk t n size [] keeps m (suc e) (p + pick (eqb (getD keeps e 0) 1) 1 0) j place)) (fine k) ≡ fine k
-    go true ih = ih
-    go false ih = refl
-
-pub nothing-to-check : (ms es xs areas symbols : List ℕ) (s : Site) (keeps : List ℕ) → Ready s → s .line .fragments ≡ 0
-    → Tallied (countLine ms es xs areas symbols s keeps) (s .filled .fixups) (Rows (s .filled .fixups))
-unfolding countLine fragmentsIn from
-nothing-to-check ms es xs areas symbols s keeps r h = record {
-  says = λ place. rw h (sym (nothing (tablesOf areas symbols s) (s .made) (s .size) keeps (s .line .width + s .line .bytes) 0 (s .line .address) (s .filled .fixups) place));
-  room = r .fixups;
-  grew = omega arith;
-}
-
-pub ruleset lines = (needs, nothing-to-check)

@@ -1,10 +1,9 @@
 -- What the proofs of the grouping share: a law for each return, and the loops' invariants.
 -- Assumes nothing.
-use Prim.Native.Nat.{ℕ, zero, suc, _+_, _-_, _*_, _/_, _^_, _≤_, _<_}
+use Prim.Native.Nat.{ℕ, suc, _+_, _-_, _*_, _/_, _^_, _≤_, _<_}
 use mathlib.Core.Path.{_≡_, refl, sym, ap, _∙_}
-use mathlib.Core.Bool.{Bool, true, false, _&&_}
+use mathlib.Core.Bool.{Bool, true, false}
 use mathlib.Core.List.{List, [], _∷_, _++_, append-assoc}
-use mathlib.Core.Option.{Option, none, some}
 use native.Mathlib.Nat.{add-zero}
 use native.Mathlib.Numerals.{add-one}
 use native.Mathlib.Omega.{arith}
@@ -24,7 +23,7 @@ use Rattle.laws.proofs.Room.{grouped-le, flat-length}
 use Rattle.cells.proofs.Laws.{sets-append}
 use Rattle.place.specs.declared.group.Grouped.{Grouped}
 use Rattle.place.specs.declared.group.Grouped.the-variants.{Numbers, Misfit}
-use Rattle.place.specs.Group.{rowFor, areaFor, areasFor, Stored, roomFor, told, Regrouped}
+use Rattle.place.specs.Group.{rowFor, areaFor, areasFor, Stored, roomFor, Regrouped}
 use Rattle.place.proofs.RowLaws.{length-from, nine-long, nine-is}
 
 -- ------------------------------------------------------------------ one row

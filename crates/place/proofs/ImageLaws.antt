@@ -8,7 +8,7 @@ use native.Mathlib.Numerals.{add-one}
 use native.Mathlib.Omega.{arith}
 use mir.Val.{Fits}
 use mir.Syntax.{w32, w64}
-use lib.Dec.{eqb, ltb}
+use lib.Dec.{eqb}
 use lib.ListN.{length, getD, set}
 use borrow.Author.Needs.{needs}
 use borrow.Author.Tests.{lt-ltb, le-ltb, eq-eqb, ne-eqb}
@@ -57,7 +57,7 @@ image-start s wv wm wk vs ms r {n} e = let z : n - 0 ≡ s .line .width + s .lin
   ready = r;
 }
 
-out-of : (start size : ℕ) (ws keeps : List ℕ) (m e p : ℕ) (image : List ℕ) → size ≤ p → imageWalk start size ws keeps m e p image ≡ image
+pub out-of : (start size : ℕ) (ws keeps : List ℕ) (m e p : ℕ) (image : List ℕ) → size ≤ p → imageWalk start size ws keeps m e p image ≡ image
 unfolding imageWalk
 out-of start size ws keeps zero e p image h = refl
 out-of start size ws keeps (suc m) e p image h = rw (le-ltb p size h)

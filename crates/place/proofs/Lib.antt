@@ -2,11 +2,17 @@ pub mod NamedLaws
 pub mod WorkLaws
 pub mod ReferenceLaws
 pub mod CheckLaws
+pub mod SureLaws
 pub mod RowLaws
+pub mod NextLaws
 pub mod WalkLaws
 pub mod PassLaws
 pub mod ImageLaws
+pub mod PlainLaws
 pub mod SiteLaws
+pub mod SpotLaws
 pub mod PairLaws
+pub mod PlainPairLaws
 pub mod GroupLaws
 pub mod Use
+pub mod Unique

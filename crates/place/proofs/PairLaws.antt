@@ -1,6 +1,6 @@
 -- What the proof of the pair cites: the code's order of work is the definition's.
 -- Assumes nothing.
-use Prim.Native.Nat.{ℕ, zero, suc, _+_, _-_, _*_, _≤_, _<_}
+use Prim.Native.Nat.{ℕ, zero, suc, _+_, _-_, _≤_}
 use mathlib.Core.Path.{_≡_, refl, sym, ap, _∙_}
 use mathlib.Core.Bool.{Bool, true, false, not, _&&_}
 use mathlib.Core.List.{List, [], _∷_}
@@ -9,13 +9,13 @@ use native.Mathlib.Nat.{add-zero}
 use native.Mathlib.Numerals.{add-one}
 use native.Mathlib.Omega.{arith}
 use lib.Dec.{eqb, leb, ltb}
-use lib.ListN.{length, getD, set, take, drop, replicate}
+use lib.ListN.{length, getD, set, take, replicate}
 use lib.Seq.{length-take-le}
 use borrow.Author.Needs.{needs}
 use borrow.Author.Tests.{leb-true, not-true, not-false}
 use Rattle.format.specs.Lists.{pick}
 use Rattle.format.specs.Header.{Form}
-use Rattle.format.specs.Pairs.{Fragment, Content, placed}
+use Rattle.format.specs.Pairs.{Fragment}
 use Rattle.format.specs.Outcome.{Outcome, fine, refused, andThen, fold}
 use Rattle.format.specs.Tables.{Area, rank, offset}
 use Rattle.format.specs.Fixups.{Fixup, fixupsAt}
@@ -35,15 +35,14 @@ use Rattle.place.specs.declared.walk.Fixed.the-variants.{Refused, Rows}
 use Rattle.place.specs.declared.work_line.Worked.{Worked}
 use Rattle.place.specs.declared.work_line.Worked.the-variants.{Beyond, Numbers}
 use Rattle.place.specs.Columns.{fragmentsIn}
-use Rattle.place.specs.Named.{names, Named}
+use Rattle.place.specs.Named.{names}
 use Rattle.place.specs.Work as work
 use Rattle.place.specs.Work.{lineOf, turnOf, turns, allTurns, madeBy, Whole}
-use Rattle.place.specs.Check.{tablesOf, usedBy}
-use Rattle.place.specs.Walk as rows
-use Rattle.place.specs.Walk.{Ready, madeAt, siteOf, fixupsWalk, lineAt, writes, Settled}
+use Rattle.place.specs.Check.{tablesOf}
+use Rattle.place.specs.Walk.{madeAt, siteOf, fixupsWalk, lineAt, Settled}
 use Rattle.place.specs.Image.{imageWalk, imageOf, Imaged}
 use Rattle.place.specs.Site.{lineFits, filledFits, imageFits, siteAt, foundBy, found}
-use Rattle.place.specs.Pair.{formOf, contentOf, pairOf, pairAt, afterWork, keptFits, fits, told, usedNow, changes, ended, toldState, Prepared, Placeable, Processed, PairPlaced}
+use Rattle.place.specs.Pair.{formOf, pairOf, pairAt, afterWork, keptFits, fits, ended, Prepared, Placeable, Processed, PairPlaced}
 use Rattle.place.proofs.NamedLaws.{both-true, named-by}
 
 -- ------------------------------------------------------------------ the definition in the code's order
@@ -183,7 +182,7 @@ module _ (s : Site) (bs ms es : List ℕ) (h : s .line .bytes ≤ length bs) {wv
 
 pub ruleset preparing = (needs, prepared)
 
--- ------------------------------------------------------------------ `process_relocs`
+-- ------------------------------------------------------------------ `place_fragments`
 
 pub pair-processed : (s : Site) (bs ms es xs areas symbols vs masks rs : List ℕ) {q : Worked} {wv wm wk ns : List ℕ} → Prepared s bs ms es q ns wv wm wk
     → {r : Fixed} {vs′ masks′ rs′ : List ℕ} → Processed (afterWork s q ms es xs areas symbols ns wv wm wk (stateOf vs masks rs (s .filled .fixups))) vs masks rs r vs′ masks′ rs′

@@ -1,14 +1,13 @@
 -- The check pass counts what the walk makes: it refuses where the walk does, and where it does not the walk refuses nothing.
 -- Assumes nothing.
-use Prim.Native.Nat.{ℕ, zero, suc, _+_, _≤_, _<_}
+use Prim.Native.Nat.{ℕ, zero, suc, _+_, _≤_}
 use mathlib.Core.Path.{_≡_, refl, sym, ap, _∙_}
 use mathlib.Core.Bool.{Bool, true, false}
 use mathlib.Core.List.{List, [], _∷_, _++_}
 use mathlib.Core.Option.{Option, none, some}
 use native.Mathlib.Omega.{arith}
-use native.Mathlib.Numerals.{add-one}
 use lib.Dec.{eqb, ltb}
-use lib.ListN.{length, getD, take, length-append}
+use lib.ListN.{length, getD, length-append}
 use lib.Seq.{length-take-le}
 use borrow.Author.Needs.{needs}
 use Rattle.format.specs.Lists.{pick}
@@ -23,8 +22,8 @@ use Rattle.place.specs.declared.walk.Fixed.the-variants.{Refused, Rows}
 use Rattle.place.specs.References.{refersAt}
 use Rattle.place.specs.Columns.{fragmentsIn}
 use Rattle.place.specs.Named.{Named}
-use Rattle.place.specs.Check.{countOne, countTo, countsAt, countWalk, tablesOf, countLine, toldCount, Tallied}
-use Rattle.place.specs.Walk.{Ready, madeAt, siteOf, fixupsWalk, lineAt, told, writes, Within, Made, Settled}
+use Rattle.place.specs.Check.{countOne, countTo, countsAt, countWalk, countLine, Passes}
+use Rattle.place.specs.Walk.{Ready, madeAt, siteOf, fixupsWalk, lineAt, told, writes, Made, Settled}
 use Rattle.place.proofs.RowLaws.{count-rows}
 use Rattle.place.proofs.WalkLaws.{at-refers, stopped}
 
@@ -91,11 +90,11 @@ module _ (ms es xs areas symbols ns : List ℕ) (s : at.Site) (keeps rows : List
   many-refused (fine ys) n p h = unlike n p (length ys) (sym h)
   many-refused (refused m q) n p h = cc
 
-  module _ {c : Fixed} (a : Tallied (countLine ms es xs areas symbols s keeps) (s .filled .fixups) c) where
+  module _ {c : Fixed} (a : Passes (countLine ms es xs areas symbols s keeps) c) where
     pub pass-refused : Ready s → {x : ℕ} → c ≡ Refused x → Settled (lineAt ms es xs areas symbols ns s keeps (fixupsIn rows (s .filled .fixups))) (s .filled .fixups) rows c rows
     pass-refused r {x} g = record {
       made = record {
-        says = λ place. rw g (sym (many-refused (lineAt ms es xs areas symbols ns s keeps (fixupsIn rows (s .filled .fixups)) place) x place (line-many place ∙ sym (rw g at (a .says place)))));
+        says = λ place. rw g (sym (many-refused (lineAt ms es xs areas symbols ns s keeps (fixupsIn rows (s .filled .fixups)) place) x place (line-many place ∙ a .stops x g place)));
         within = rw g (stopped (s .filled .fixups) x rows (r .fixups));
       };
       same = λ e. refl;
@@ -104,8 +103,10 @@ module _ (ms es xs areas symbols ns : List ℕ) (s : at.Site) (keeps rows : List
     never : {x : ℕ} → c ≡ Rows x → (r : Fixed) {rows′ : List ℕ} → told 0 r rows′ ≡ lineAt ms es xs areas symbols ns s keeps (fixupsIn rows (s .filled .fixups)) 0
         → writes r ≡ false → rows′ ≡ rows
     never {x} g (Refused n) p e =
-        let z : refused n 0 ≡ fine x = ap many p ∙ (line-many 0 ∙ sym (rw g at (a .says 0))) in
-        unlike n 0 x z
+        let z : refused n 0 ≡ countLine ms es xs areas symbols s keeps 0 = ap many p ∙ line-many 0 in
+        let f : false ≡ true = rw (← z) at (a .goes x g 0) in
+        let y : _≡_ {A = ℕ} 0 1 = cc in
+        absurd (omega arith)
     never g (Rows k) p e = let z : _≡_ {A = ℕ} 0 1 = cc in absurd (omega arith)
 
     pub pass-made : {x : ℕ} → c ≡ Rows x → {r : Fixed} {rows′ : List ℕ} → Made (lineAt ms es xs areas symbols ns s keeps (fixupsIn rows (s .filled .fixups))) (s .filled .fixups) rows r rows′

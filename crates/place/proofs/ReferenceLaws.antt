@@ -2,12 +2,11 @@
 -- Assumes nothing.
 use Prim.Native.Nat.{ℕ, zero, suc, _+_, _-_, _*_, _/_, _%_, _≤_, _<_}
 use mathlib.Core.Path.{_≡_, refl, sym, ap, _∙_}
-use mathlib.Core.Bool.{Bool, true, false, not, _&&_}
-use mathlib.Core.List.{List, [], _∷_}
+use mathlib.Core.Bool.{Bool, true, false, not}
+use mathlib.Core.List.{List, _∷_}
 use mathlib.Core.Option.{Option, none, some}
-use native.Mathlib.Numerals.{add-one, sub-one}
+use native.Mathlib.Numerals.{add-one}
 use native.Mathlib.Omega.{arith}
-use lib.Dec.{eqb, leb}
 use lib.ListN.{getD, getElem?}
 use borrow.Author.Needs.{needs}
 use mir.Val.{Fits}
@@ -15,7 +14,7 @@ use mir.Syntax.{w32}
 use borrow.Author.Tests.{le-leb, lt-leb, eq-eqb, ne-eqb, not-true, not-false}
 use Rattle.format.specs.Lists.{pick}
 use Rattle.format.specs.Mode.{bit, gives, givesOf, Class, classOf}
-use Rattle.format.specs.Outcome.{Outcome, fine, refused}
+use Rattle.format.specs.Outcome.{fine}
 use Rattle.format.specs.Tables.{kept, code, rank, lastIndex}
 use Rattle.format.specs.Fixups.{toArea, homeOf, symbolRef, reference}
 use Rattle.format.specs.Rows.{plusOneOrZero}
@@ -44,7 +43,7 @@ module _ (areas : List ℕ) (j : ℕ) {z f : ℕ} (ez : z ≡ getD areas (6 * j 
 
 pub ruleset keeping = (needs, kept-not-code, kept-yes, kept-empty)
 
--- `rank_of`
+-- `rank_at`, `rank_of`
 none-past : (areas : List ℕ) (k j n i : ℕ) → n ≤ i → rank k (from (areaAt areas) j n) i ≡ none
 unfolding rank from
 none-past areas k j zero i h = refl
@@ -76,8 +75,8 @@ end-of : (b : Bool) (k x : ℕ) → x ≡ pick b 1 0 → (x ≡ 1 → k + 1 ≡ 
 end-of true k x e = (λ h. rw add-one, λ h. absurd (h e))
 end-of false k x e = (λ h. absurd (omega arith), λ h. refl)
 
-module _ {areas : List ℕ} {n i k j : ℕ} (w : Ranking areas n i k j) (h : i < n) {x : ℕ} where
-  pub rank-more : j < i → x ≡ pick (kept (areaAt areas j)) 1 0 → Ranking areas n i (k + x) (j + 1)
+module _ {areas : List ℕ} {n i k j : ℕ} (w : Ranking areas n i k j) (h : i < n) where
+  pub rank-more : j < i → {x : ℕ} → x ≡ pick (kept (areaAt areas j)) 1 0 → Ranking areas n i (k + x) (j + 1)
   unfolding rank from
   rank-more l e = record {
     within = omega arith;
@@ -88,25 +87,25 @@ module _ {areas : List ℕ} {n i k j : ℕ} (w : Ranking areas n i k j) (h : i <
         rw (add-one, e) (w .rest ∙ (ap (λ (y : ℕ). rank k (from (areaAt areas) j y) (i - j)) p ∙ ap (λ (y : ℕ). rank k (areaAt areas j ∷ from (areaAt areas) (suc j) (n - suc j)) y) q));
   }
 
-  pub rank-fits : j < i → n ≤ 64 → x ≡ pick (kept (areaAt areas j)) 1 0 → Fits w32 (k + x)
+  pub rank-fits : j < i → n ≤ 64 → {x : ℕ} → x ≡ pick (kept (areaAt areas j)) 1 0 → Fits w32 (k + x)
   rank-fits l m e = record { fits = omega (arith, w .few, at-most (kept (areaAt areas j))) }
 
-  module _ (g : i ≤ j) (e : x ≡ pick (kept (areaAt areas i)) 1 0) where
-    here : rank 0 (areasIn areas n) i ≡ pick (kept (areaAt areas i)) (some k) none
-    unfolding rank from
-    here =
-        let s : j ≡ i = omega (arith, w .within) in
-        let p : n - i ≡ suc (n - suc i) = omega arith in
-        let q : i - i ≡ 0 = omega arith in
-        (rw s at (w .rest)) ∙ rw (q, p)
+  pub rank-here : i ≤ j → rank 0 (areasIn areas n) i ≡ pick (kept (areaAt areas i)) (some k) none
+  unfolding rank from
+  rank-here g =
+      let s : j ≡ i = omega (arith, w .within) in
+      let p : n - i ≡ suc (n - suc i) = omega arith in
+      let q : i - i ≡ 0 = omega arith in
+      (rw s at (w .rest)) ∙ rw (q, p)
 
+  module _ (g : i ≤ j) {x : ℕ} (e : x ≡ pick (kept (areaAt areas i)) 1 0) where
     pub rank-found : x ≡ 1 → k + 1 ≡ plusOneOrZero (rank 0 (areasIn areas n) i)
-    rank-found f = rw here (end-of (kept (areaAt areas i)) k x e .0 f)
+    rank-found f = rw (rank-here g) (end-of (kept (areaAt areas i)) k x e .0 f)
 
     pub rank-none : (x ≡ 1 → ⊥) → 0 ≡ plusOneOrZero (rank 0 (areasIn areas n) i)
-    rank-none f = rw here (end-of (kept (areaAt areas i)) k x e .1 f)
+    rank-none f = rw (rank-here g) (end-of (kept (areaAt areas i)) k x e .1 f)
 
-pub ruleset ranking = (needs, rank-past, rank-start, rank-more, rank-fits, rank-found, rank-none)
+pub ruleset ranking = (needs, rank-start, rank-more, rank-fits, rank-found, rank-none)
 
 -- `to_area`
 abbrev pub to : (outside what length value : ℕ) → Reference
@@ -144,7 +143,7 @@ module _ (areas : List ℕ) (n : ℕ) (symbols : List ℕ) (i : ℕ) {v : ℕ} (
 pub ruleset symbols = (needs, to-nothing, to-kept, home-none, home-rank, symbol-outside, symbol-home)
 
 -- `refer`
-elem-in : (rows : List ℕ) (j n i : ℕ) → i < n → getElem? (from (symbolAt rows) j n) i ≡ some (symbolAt rows (j + i))
+pub elem-in : (rows : List ℕ) (j n i : ℕ) → i < n → getElem? (from (symbolAt rows) j n) i ≡ some (symbolAt rows (j + i))
 unfolding from
 elem-in rows j zero i h = absurd (omega arith)
 elem-in rows j (suc n) zero h = let e : j + 0 ≡ j = omega arith in rw e

@@ -1,7 +1,7 @@
 -- What the proofs of a pair's site share: a law for each return, and the loop's invariant.
 -- Assumes nothing.
 use Prim.Native.Nat.{ℕ, zero, suc, _+_, _-_, _*_, _/_, _%_, _≤_, _<_}
-use mathlib.Core.Path.{_≡_, refl, sym, ap, _∙_}
+use mathlib.Core.Path.{_≡_, refl, ap, _∙_}
 use mathlib.Core.Bool.{Bool, true, false, not, _&&_}
 use mathlib.Core.List.{List, [], _∷_}
 use mathlib.Core.Option.{Option, none, some}
@@ -10,8 +10,8 @@ use native.Mathlib.Numerals.{add-one}
 use native.Mathlib.Omega.{arith}
 use mir.Val.{Fits}
 use mir.Syntax.{w64}
-use lib.Dec.{eqb, leb}
-use lib.ListN.{length, getD, take, drop}
+use lib.Dec.{leb}
+use lib.ListN.{getD, take, drop}
 use borrow.Author.Needs.{needs}
 use borrow.Author.Tests.{le-leb, lt-leb, eq-eqb, ne-eqb, not-true, not-false}
 use Rattle.format.specs.Lists.{pick}
@@ -25,8 +25,11 @@ use Rattle.place.specs.declared.pair.Filled.{Filled}
 use Rattle.place.specs.declared.site.Site.{Site}
 use Rattle.place.specs.declared.site.Found.{Found}
 use Rattle.place.specs.declared.site.Found.the-variants.{Unkept, Misfit, At}
+use Rattle.place.specs.declared.spot.Spot.{Spot}
 use Rattle.place.specs.Named.{names}
-use Rattle.place.specs.Site.{lineFits, filledFits, imageFits, siteAt, foundBy, found}
+use Rattle.place.specs.Spot.{Spotted}
+use Rattle.place.specs.Site.{lineFits, filledFits, imageFits, siteAt, found}
+use Rattle.place.proofs.ReferenceLaws.{rank-past}
 
 -- `line_fits`
 module _ (l : Line) (lent : ℕ) where
@@ -79,7 +82,7 @@ module _ (l : Line) (n : Filled) (lent room : ℕ) {a : Bool} (ea : a ≡ lineFi
 pub ruleset fitting = (needs, wide-address, long-content, unlent-content, line-last, many-areas, many-symbols, many-fixups, filled-last, counts-first, counts-both)
 
 -- `size_at`
-size-zero : (x : ℕ) → x ≡ pick (leb 1 x) x 0
+pub size-zero : (x : ℕ) → x ≡ pick (leb 1 x) x 0
 size-zero zero = refl
 size-zero (suc x) = rw (le-leb 1 (suc x) (omega arith))
 
@@ -170,10 +173,10 @@ none-of none id e h = refl
 none-of (some k) id e h = absurd (omega arith)
 
 -- `site_of`
-pub site-made : (areas : List ℕ) (l : Line) (n : Filled) (id : ℕ) {start size : ℕ} → start ≡ offset (areasIn areas (n .areas)) (l .area) → size ≡ getD areas (6 * l .area + 2) 0
-    → record { line = l; filled = n; home = id - 1; start = start; size = size; made = 0 } ≡ siteAt l n (id - 1) (offset (areasIn areas (n .areas)) (l .area)) (areaAt areas (l .area) .size)
+pub site-made : (areas : List ℕ) (l : Line) (n : Filled) (id start : ℕ) {size : ℕ} → size ≡ getD areas (6 * l .area + 2) 0
+    → record { line = l; filled = n; home = id - 1; start = start; size = size; made = 0 } ≡ siteAt l n (id - 1) start (areaAt areas (l .area) .size)
 unfolding areaAt
-site-made areas l n id es ez = rw (← es, ← ez)
+site-made areas l n id start ez = rw (← ez)
 
 pub ruleset siting = (needs, site-made)
 
@@ -193,43 +196,47 @@ image-fits-sum s h e l = record { fits = omega arith }
 pub ruleset images = (needs, image-past, image-named, image-fits-sum)
 
 -- `locate`
-module _ (t ms areas : List ℕ) (l : Line) (n : Filled) {id : ℕ} (er : id ≡ plusOneOrZero (rank 0 (areasIn areas (n .areas)) (l .area))) where
-  pub found-unkept : id ≡ 0 → Unkept ≡ found t ms (areasIn areas (n .areas)) l n
+pub found-past : (t ms areas : List ℕ) (l : Line) (n : Filled) → n .areas ≤ l .area → Unkept ≡ found t ms (areasIn areas (n .areas)) l n
+unfolding found
+found-past t ms areas l n h = rw (none-of (rank 0 (areasIn areas (n .areas)) (l .area)) 0 (rank-past areas (n .areas) (l .area) h) refl)
+
+pub found-area : (l : Line) (n : Filled) → n .areas ≤ 64 → l .area < n .areas → l .area < 64
+found-area l n h g = omega arith
+
+module _ (t ms areas : List ℕ) (l : Line) (n : Filled) {o : Spot} (p : Spotted areas (n .areas) (l .area) o) where
+  pub found-unkept : o .id ≡ 0 → Unkept ≡ found t ms (areasIn areas (n .areas)) l n
   unfolding found
-  found-unkept h = rw (none-of (rank 0 (areasIn areas (n .areas)) (l .area)) id er h)
+  found-unkept h = rw (none-of (rank 0 (areasIn areas (n .areas)) (l .area)) (o .id) (p .ranked) h)
 
-  module _ (h : id ≡ 0 → ⊥) where
-    has-rank : rank 0 (areasIn areas (n .areas)) (l .area) ≡ some (id - 1)
-    has-rank = some-of (rank 0 (areasIn areas (n .areas)) (l .area)) id er h
+  module _ (h : o .id ≡ 0 → ⊥) where
+    has-rank : rank 0 (areasIn areas (n .areas)) (l .area) ≡ some (o .id - 1)
+    has-rank = some-of (rank 0 (areasIn areas (n .areas)) (l .area)) (o .id) (p .ranked) h
 
-    listed : (l .area < n .areas) × (extent (areasIn areas (n .areas)) (l .area) ≡ areaAt areas (l .area) .size)
+    extent-is : extent (areasIn areas (n .areas)) (l .area) ≡ areaAt areas (l .area) .size
     unfolding areasIn extent
-    listed = let r = ranked areas 0 0 (n .areas) (l .area) (id - 1) has-rank in let z : 0 + l .area ≡ l .area = omega arith in (r .0, rw z at (r .1))
+    extent-is = let r = ranked areas 0 0 (n .areas) (l .area) (o .id - 1) has-rank in let z : 0 + l .area ≡ l .area = omega arith in rw z at (r .1)
 
-    pub found-listed : l .area < n .areas
-    found-listed = listed .0
+    module _ {s : Site} (es : s ≡ siteAt l n (o .id - 1) (o .start) (areaAt areas (l .area) .size)) where
+      pub found-start : s .start < 274877906944
+      found-start = rw es (p .small)
 
-    pub found-id : 1 ≤ id
-    found-id = go id h
-      where
-        go : (k : ℕ) → (k ≡ 0 → ⊥) → 1 ≤ k
-        go zero f = absurd (f refl)
-        go (suc k) f = omega arith
+      module _ {b : Bool} (eb : b ≡ imageFits t ms (s .start) (s .size) (s .line .fragments)) where
+        site-is : s ≡ siteAt l n (o .id - 1) (offset (areasIn areas (n .areas)) (l .area)) (extent (areasIn areas (n .areas)) (l .area))
+        site-is = es ∙ rw (extent-is, p .begins h)
 
-    module _ {s : Site} (es : s ≡ siteAt l n (id - 1) (offset (areasIn areas (n .areas)) (l .area)) (areaAt areas (l .area) .size))
-        {b : Bool} (eb : b ≡ imageFits t ms (s .start) (s .size) (s .line .fragments)) where
-      site-is : s ≡ siteAt l n (id - 1) (offset (areasIn areas (n .areas)) (l .area)) (extent (areasIn areas (n .areas)) (l .area))
-      site-is = es ∙ rw (listed .1)
+        fits-is : b ≡ imageFits t ms (offset (areasIn areas (n .areas)) (l .area)) (extent (areasIn areas (n .areas)) (l .area)) (l .fragments)
+        fits-is = rw site-is at eb
 
-      fits-is : b ≡ imageFits t ms (offset (areasIn areas (n .areas)) (l .area)) (extent (areasIn areas (n .areas)) (l .area)) (l .fragments)
-      fits-is = rw site-is at eb
+        pub found-misfit : not b ≡ true → Misfit ≡ found t ms (areasIn areas (n .areas)) l n
+        unfolding found
+        found-misfit f = rw (has-rank, ← fits-is, not-true b f)
 
-      pub found-misfit : not b ≡ true → Misfit ≡ found t ms (areasIn areas (n .areas)) l n
-      unfolding found
-      found-misfit f = rw (has-rank, ← fits-is, not-true b f)
+        pub found-at : not b ≡ false → At s ≡ found t ms (areasIn areas (n .areas)) l n
+        unfolding found
+        found-at f = rw (has-rank, ← fits-is, not-false b f, site-is)
 
-      pub found-at : not b ≡ false → At s ≡ found t ms (areasIn areas (n .areas)) l n
-      unfolding found
-      found-at f = rw (has-rank, ← fits-is, not-false b f, site-is)
+pub found-id : (k : ℕ) → (k ≡ 0 → ⊥) → 1 ≤ k
+found-id zero f = absurd (f refl)
+found-id (suc k) f = omega arith
 
-pub ruleset locating = (needs, found-unkept, found-listed, found-id, found-misfit, found-at)
+pub ruleset locating = (needs, found-past, found-area, found-unkept, found-start, found-id, found-misfit, found-at)

@@ -1,34 +1,25 @@
--- For a caller of `place_pair` and `by_area`: when a pair fits, what an answer says then, and that no second answer meets a contract.
+-- For a caller of `place_pair` and `by_area`: when a pair fits, and what an answer says then.
 -- Assumes nothing.
-use Prim.Native.Nat.{ℕ, _+_, _*_, _≤_}
-use mathlib.Core.Path.{_≡_, refl, sym, ap, _∙_}
-use mathlib.Core.Bool.{Bool, true, false, _&&_}
-use mathlib.Core.List.{List, _++_}
+use Prim.Native.Nat.{ℕ, _+_, _≤_}
+use mathlib.Core.Path.{_≡_, refl}
+use mathlib.Core.Bool.{Bool, true}
+use mathlib.Core.List.{List}
 use mathlib.Core.Option.{Option, none, some}
 use native.Mathlib.Omega.{arith}
-use lib.ListN.{length, take, drop, take-append-drop}
+use lib.ListN.{length, take, drop}
 use borrow.Author.Tests.{le-leb}
-use Rattle.format.specs.Lists.{pick, over, flat}
 use Rattle.format.specs.Outcome.{Outcome, fine, refused}
 use Rattle.format.specs.Tables.{Area, total, rank, offset}
-use Rattle.format.specs.Fixups.{Fixup}
-use Rattle.format.specs.Rows.{fixupNumbers}
 use Rattle.format.specs.Placing.{State, extent}
-use Rattle.laws.specs.Rows.{areasIn, fixupsIn, stateOf}
+use Rattle.laws.specs.Rows.{areasIn, stateOf}
 use Rattle.mode.specs.Class.{classTable}
 use Rattle.place.specs.declared.pair.Line.{Line}
 use Rattle.place.specs.declared.pair.Filled.{Filled}
 use Rattle.place.specs.declared.pair.Placed.{Placed}
 use Rattle.place.specs.declared.pair.Placed.the-variants.{Done, Stopped, Misfit}
-use Rattle.place.specs.declared.group.Grouped.{Grouped}
-use Rattle.place.specs.declared.group.Grouped.the-variants as groups
-use Rattle.place.specs.Named.{names}
 use Rattle.place.specs.Site.{lineFits, filledFits, imageFits}
-use Rattle.place.specs.Pair.{keptFits, fits, told, usedNow, changes, PairPlaced}
-use Rattle.place.specs.Group as group
-use Rattle.place.specs.Group.{areasFor, roomFor, Regrouped}
+use Rattle.place.specs.Pair.{keptFits, fits, PairPlaced}
 use Rattle.place.proofs.NamedLaws.{table-names}
-use Rattle.place.proofs.RowLaws.{count-rows, rows-numbers}
 use Rattle.place.proofs.SiteLaws.{total-two}
 
 -- ------------------------------------------------------------------ `place_pair`

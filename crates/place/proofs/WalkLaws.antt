@@ -3,14 +3,14 @@
 use Prim.Native.Nat.{ℕ, zero, suc, _+_, _-_, _*_, _≤_, _<_}
 use mathlib.Core.Path.{_≡_, refl, sym, ap, _∙_}
 use mathlib.Core.Bool.{Bool, true, false, _&&_}
-use mathlib.Core.List.{List, [], _∷_, _++_}
-use mathlib.Core.Option.{Option, none, some}
+use mathlib.Core.List.{List, [], _∷_}
+use mathlib.Core.Option.{none}
 use native.Mathlib.Numerals.{add-one}
 use native.Mathlib.Omega.{arith}
 use mir.Val.{Fits}
 use mir.Syntax.{w32, w64}
 use lib.Dec.{eqb, ltb, lit≤}
-use lib.ListN.{length, getD, take, drop, length-append}
+use lib.ListN.{length, getD, drop}
 use lib.Seq.{sets, drop-drop, getD-take, length-take-le}
 use borrow.Author.Needs.{needs}
 use borrow.Author.Tests.{lt-ltb, le-ltb, ltb-true}
@@ -31,9 +31,12 @@ use Rattle.place.specs.declared.references.Refers.the-variants.{Missing,
 use Rattle.place.specs.References as ref
 use Rattle.place.specs.References.{refers, refersAt, refersIn}
 use Rattle.place.specs.Columns.{fragmentAt, fragmentsIn}
-use Rattle.place.specs.Check.{countOne, tablesOf, usedBy, toldCount, Tallied}
+use Rattle.place.specs.Check.{countOne, usedBy, Tallied}
+use Rattle.place.specs.Named.{Named}
+use Rattle.place.specs.Next.{Clear}
 use Rattle.place.specs.Walk.{Ready, siteOf, fixupsWalk, fixup, entryAt, lineAt, told, Within, OneRow, Added, Made}
 use Rattle.place.proofs.NamedLaws.{named-at}
+use Rattle.place.proofs.NextLaws.{none-here, none-left}
 use Rattle.place.proofs.RowLaws.{count-rows, row-made, row-rest}
 
 -- ------------------------------------------------------------------ one row
@@ -222,10 +225,21 @@ module _ {ms es xs areas symbols ns : List ℕ} {s : Site} {entry position k : �
 
 pub ruleset entries = (needs, named-at, fix-start, fix-end, fix-room, fix-long, fix-stop, fix-more)
 
+-- `entry_rows`: nothing to do below the next entry at which a fragment can give a fixup
+pub entry-none : (ms es xs areas symbols ns : List ℕ) (s : Site) (entry position k : ℕ) (rows : List ℕ) {t : ℕ} → Clear ms es (s .line .fragments) entry t → entry < t → k ≤ 1024
+    → Made (entryAt ms es xs areas symbols ns s entry position (fixupsIn rows k)) k rows (Rows k) rows
+unfolding entryAt
+entry-none ms es xs areas symbols ns s entry position k rows n h hk = record {
+  says = λ place. sym (none-here (siteOf areas symbols ns s place) entry position ms es xs (s .line .fragments) (fixupsIn rows k) n h);
+  within = same k rows hk;
+}
+
+pub ruleset between = (needs, entry-none)
+
 -- ------------------------------------------------------------------ the line
 
--- the entries up to e are passed, and the position is p
-pub record Walking (ms es xs areas symbols ns : List ℕ) (s : Site) (keeps : List ℕ) (n : ℕ) (rows left : List ℕ) (k e p : ℕ) : Type 0 where
+-- the entries up to e are passed, the position is p, and from e up to t no fragment can give a fixup
+pub record Walking (table ms es xs areas symbols ns : List ℕ) (s : Site) (keeps : List ℕ) (n : ℕ) (rows left : List ℕ) (k e p t : ℕ) : Type 0 where
   pub whole : n ≡ s .line .width + s .line .bytes
   pub inside : e ≤ n
   pub rest : (place : ℕ) → lineAt ms es xs areas symbols ns s keeps (fixupsIn rows (s .filled .fixups)) place
@@ -235,11 +249,13 @@ pub record Walking (ms es xs areas symbols ns : List ℕ) (s : Site) (keeps : Li
   pub room : 9216 ≤ length rows
   pub numbers : s .made ≤ length ns
   pub ready : Ready s
+  pub named : Named table ms (s .line .fragments)
+  pub clear : Clear ms es (s .line .fragments) e t
 
-pub walk-start : (ms es xs areas symbols ns : List ℕ) (s : Site) (keeps : List ℕ) (rows : List ℕ) → Ready s → s .made ≤ length ns → 9216 ≤ length rows → {n : ℕ} → n ≡ s .line .width + s .line .bytes
-    → Walking ms es xs areas symbols ns s keeps n rows rows (s .filled .fixups) 0 (s .line .address)
+pub walk-start : (table ms es xs areas symbols ns : List ℕ) (s : Site) (keeps : List ℕ) (rows : List ℕ) → Ready s → Named table ms (s .line .fragments) → s .made ≤ length ns → 9216 ≤ length rows → {n : ℕ} → n ≡ s .line .width + s .line .bytes
+    → {t : ℕ} → Clear ms es (s .line .fragments) 0 t → Walking table ms es xs areas symbols ns s keeps n rows rows (s .filled .fixups) 0 (s .line .address) t
 unfolding lineAt
-walk-start ms es xs areas symbols ns s keeps rows r hn hr {n} e = record {
+walk-start table ms es xs areas symbols ns s keeps rows r hm hn hr {n} e f = record {
   whole = e;
   inside = omega arith;
   rest = λ place. let z : n - 0 ≡ s .line .width + s .line .bytes = omega arith in rw z;
@@ -248,6 +264,8 @@ walk-start ms es xs areas symbols ns s keeps rows r hn hr {n} e = record {
   room = hr;
   numbers = hn;
   ready = r;
+  named = hm;
+  clear = f;
 }
 
 out-of : (w : defs.Site) (size : ℕ) (fs : List Fragment) (keeps : List ℕ) (m e p : ℕ) (xs : List Fixup) → size ≤ p → fixupsWalk w size fs keeps m e p xs ≡ fine xs
@@ -259,11 +277,13 @@ at-most : (b : Bool) → pick b 1 0 ≤ 1
 at-most true = omega arith
 at-most false = omega arith
 
-module _ {ms es xs areas symbols ns : List ℕ} {s : Site} {keeps : List ℕ} {n : ℕ} {rows left : List ℕ} {k e p : ℕ}
-    (w : Walking ms es xs areas symbols ns s keeps n rows left k e p) where
-  pub walk-end : n ≤ e → Made (lineAt ms es xs areas symbols ns s keeps (fixupsIn rows (s .filled .fixups))) (s .filled .fixups) rows (Rows k) left
-  unfolding fixupsWalk
-  walk-end h = record { says = λ place. let z : n - e ≡ 0 = omega arith in sym (w .rest place ∙ rw z); within = w .within }
+module _ {table ms es xs areas symbols ns : List ℕ} {s : Site} {keeps : List ℕ} {n : ℕ} {rows left : List ℕ} {k e p t : ℕ}
+    (w : Walking table ms es xs areas symbols ns s keeps n rows left k e p t) where
+  pub walk-end : n ≤ t → Made (lineAt ms es xs areas symbols ns s keeps (fixupsIn rows (s .filled .fixups))) (s .filled .fixups) rows (Rows k) left
+  walk-end h = record {
+    says = λ place. sym (w .rest place ∙ none-left (siteOf areas symbols ns s place) (s .size) ms es xs (s .line .fragments) keeps (n - e) e p (fixupsIn left k) (w .clear) (omega (arith, w .inside)));
+    within = w .within;
+  }
 
   pub walk-room : k ≤ 1024
   walk-room = w .within .room
@@ -277,8 +297,17 @@ module _ {ms es xs areas symbols ns : List ℕ} {s : Site} {keeps : List ℕ} {n
   pub walk-ready : Ready s
   walk-ready = w .ready
 
-  pub entry-fits : e < n → Fits w32 (e + 1)
-  entry-fits h = record { fits = omega (arith, w .whole, w .ready .line .address, w .ready .line .content) }
+  pub walk-named : Named table ms (s .line .fragments)
+  walk-named = w .named
+
+  pub walk-clear : Clear ms es (s .line .fragments) e t
+  walk-clear = w .clear
+
+  pub entry-fits : t < n → Fits w32 (e + 1)
+  entry-fits h = record { fits = omega (arith, w .whole, w .ready .line .address, w .ready .line .content, w .clear .above) }
+
+  pub walk-less : t < n → n - (e + 1) < n - e
+  walk-less h = omega (arith, w .clear .above)
 
   pub grow-fits : p < s .size → (b : Bool) {y : ℕ} → y ≡ pick b 1 0 → Fits w32 (p + y)
   grow-fits h b ey = record { fits = omega (arith, w .ready .inside, at-most b) }
@@ -289,12 +318,12 @@ module _ {ms es xs areas symbols ns : List ℕ} {s : Site} {keeps : List ℕ} {n
     within = w .within;
   }
 
-  module _ (h : e < n) (l : p < s .size) {r : Fixed} {left′ : List ℕ} (a : Made (entryAt ms es xs areas symbols ns s e p (fixupsIn left k)) k left r left′) where
+  module _ (h : t < n) (l : p < s .size) {r : Fixed} {left′ : List ℕ} (a : Made (entryAt ms es xs areas symbols ns s e p (fixupsIn left k)) k left r left′) where
     onward : (place : ℕ) → lineAt ms es xs areas symbols ns s keeps (fixupsIn rows (s .filled .fixups)) place
         ≡ andThen (told place r left′) (λ ys. fixupsWalk (siteOf areas symbols ns s place) (s .size) (fragmentsIn ms es xs (s .line .fragments)) keeps (n - suc e) (suc e) (p + pick (eqb (getD keeps e 0) 1) 1 0) ys)
     unfolding fixupsWalk entryAt
     onward place =
-        let z : n - e ≡ suc (n - suc e) = omega arith in
+        let z : n - e ≡ suc (n - suc e) = omega (arith, w .clear .above) in
         w .rest place ∙ (ap (λ (y : ℕ). fixupsWalk (siteOf areas symbols ns s place) (s .size) (fragmentsIn ms es xs (s .line .fragments)) keeps y e p (fixupsIn left k)) z
         ∙ rw (lt-ltb p (s .size) l, ← a .says place))
 
@@ -302,18 +331,21 @@ module _ {ms es xs areas symbols ns : List ℕ} {s : Site} {keeps : List ℕ} {n
     walk-stop g = record { says = λ place. rw g (sym (rw g at (onward place))); within = then-within (w .within) (a .within) }
 
     pub walk-more : {x : ℕ} → r ≡ Rows x → length left′ ≡ length left → {y : ℕ} → y ≡ pick (eqb (getD keeps e 0) 1) 1 0
-        → Walking ms es xs areas symbols ns s keeps n rows left′ x (e + 1) (p + y)
-    walk-more {x} g q ey = record {
+        → {u : ℕ} → ((d : ℕ) → d ≤ e + 1 → Clear ms es (s .line .fragments) d t → Clear ms es (s .line .fragments) (e + 1) u)
+        → Walking table ms es xs areas symbols ns s keeps n rows left′ x (e + 1) (p + y) u
+    walk-more {x} g q ey f = record {
       whole = w .whole;
-      inside = omega arith;
+      inside = omega (arith, w .clear .above);
       rest = λ place. rw (ey, add-one) (rw g at (onward place));
       within = rw g at (then-within (w .within) (a .within));
       long = q ∙ w .long;
       room = w .room;
       numbers = w .numbers;
       ready = w .ready;
+      named = w .named;
+      clear = f e (omega arith) (w .clear);
     }
 
-pub ruleset walking = (needs, walk-start, walk-end, walk-room, walk-long, walk-numbers, walk-ready, walk-out, walk-stop, walk-more)
+pub ruleset walking = (needs, walk-start, walk-end, walk-room, walk-long, walk-numbers, walk-ready, walk-named, walk-clear, walk-out, walk-stop, walk-more)
 
-pub ruleset bounds = (needs, entry-fits, grow-fits)
+pub ruleset bounds = (needs, entry-fits, grow-fits, walk-less)

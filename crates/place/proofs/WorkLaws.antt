@@ -4,7 +4,7 @@ use Prim.Native.Nat.{ℕ, zero, suc, _+_, _-_, _/_, _%_, _≤_, _<_}
 use mathlib.Core.Path.{_≡_, refl, sym, ap, _∙_}
 use mathlib.Core.Bool.{Bool, true, false}
 use mathlib.Core.List.{List, [], _∷_, _++_}
-use mathlib.Core.Option.{Option, none, some}
+use mathlib.Core.Option.{none, some}
 use native.Mathlib.Numerals.{add-one}
 use native.Mathlib.Omega.{arith}
 use lib.Dec.{eqb, leb, lit≤}
@@ -15,11 +15,9 @@ use borrow.Author.Tests.{lt-ltb, le-ltb, le-leb, lt-leb}
 use borrow.Rule.Slice.PartMut.{putMid}
 use mir.Val.{Fits}
 use mir.Syntax.{w64}
-use Rattle.format.specs.Lists.{pick}
-use Rattle.format.specs.Pairs.{Fragment}
 use Rattle.format.specs.Mode.{Class, Addr19, Addr11, Addr24, Addr16, Byte, Other, classOf, bit, touched, touchedOf}
 use Rattle.format.specs.ModeStep.{numberBy, valuesBy, masksBy, keepsBy, stepNumber, stepValues, stepMasks, stepKeeps}
-use Rattle.format.specs.Outcome.{Outcome, fine, refused, andThen}
+use Rattle.format.specs.Outcome.{andThen}
 use Rattle.format.specs.WorkLine.{padded, beyond, stepAt, partly}
 use Rattle.format.specs.WorkLine as defs
 use Rattle.laws.specs.Rows.{from}
@@ -32,7 +30,7 @@ use Rattle.place.specs.declared.work_line.Worked.{Worked}
 use Rattle.place.specs.declared.work_line.Worked.the-variants.{Beyond, Numbers}
 use Rattle.place.specs.Columns.{fragmentAt, fragmentsIn}
 use Rattle.place.specs.Work as work
-use Rattle.place.specs.Work.{lineOf, turnOf, turns, allTurns, told, madeBy, Applied, Turned, Whole}
+use Rattle.place.specs.Work.{lineOf, turnOf, turns, allTurns, told, Applied, Turned, Whole}
 use Rattle.place.proofs.NamedLaws.{named-at}
 
 -- ------------------------------------------------------------------ the content

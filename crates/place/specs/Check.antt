@@ -2,6 +2,7 @@
 -- Assumes nothing.
 use Prim.Native.Nat.{ℕ, zero, suc, _+_, _≤_}
 use mathlib.Core.Path.{_≡_}
+use mathlib.Core.Bool.{Bool, true, false}
 use mathlib.Core.List.{List, [], _∷_}
 use mathlib.Core.Option.{Option, none, some}
 use lib.Dec.{eqb, ltb}
@@ -73,3 +74,12 @@ pub record Tallied (o : ℕ → Outcome ℕ) (k : ℕ) (r : Fixed) : Type 0 wher
   pub says : (place : ℕ) → toldCount place r ≡ o place
   pub room : usedBy r ≤ 1024
   pub grew : k ≤ usedBy r
+
+abbrev pub isFine : Outcome ℕ → Bool
+isFine (fine k) = true
+isFine (refused n p) = false
+
+-- the same without the count: a refusal is the definition's, and where there is none the definition has none
+pub record Passes (o : ℕ → Outcome ℕ) (r : Fixed) : Type 0 where
+  pub stops : (x : ℕ) → r ≡ Refused x → (place : ℕ) → o place ≡ refused x place
+  pub goes : (x : ℕ) → r ≡ Rows x → (place : ℕ) → isFine (o place) ≡ true

@@ -4,8 +4,9 @@ use Prim.Native.Nat.{ℕ, zero, suc, _+_}
 use mathlib.Core.Path.{_≡_}
 use mathlib.Core.List.{List}
 use lib.Dec.{eqb, ltb}
-use lib.ListN.{getD, set}
+use lib.ListN.{getD, set, take, replicate}
 use Rattle.format.specs.Lists.{pick}
+use Rattle.format.specs.WorkLine.{padded}
 use Rattle.place.specs.declared.site.Site.{Site}
 
 -- an image once m entries from an entry on were walked, while the position is inside the area; ws are the work line's values, or its masks
@@ -29,3 +30,8 @@ pub record Wrote (keep at v m : ℕ) (vs ms : List ℕ) (r : ℕ) (vs′ ms′ :
 pub record Imaged (s : Site) (wv wm wk vs ms vs′ ms′ : List ℕ) : Type 0 where
   pub values : vs′ ≡ imageOf s wv wk vs
   pub masks : ms′ ≡ imageOf s wm wk ms
+
+-- the same with the work line of a pair without fragments
+pub record Plain (s : Site) (bs vs ms vs′ ms′ : List ℕ) : Type 0 where
+  pub imaged : Imaged s (padded (s .line .width) (s .line .bytes) (take (s .line .bytes) bs)) (padded (s .line .width) (s .line .bytes) (replicate (s .line .bytes) 255))
+      (padded (s .line .width) (s .line .bytes) (replicate (s .line .bytes) 1)) vs ms vs′ ms′

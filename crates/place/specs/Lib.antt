@@ -1,8 +1,11 @@
 pub mod Columns
 pub mod Named
 pub mod Work
+pub mod Spot
 pub mod References
 pub mod Check
+pub mod Sure
+pub mod Next
 pub mod Walk
 pub mod Image
 pub mod Site

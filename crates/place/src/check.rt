@@ -2,6 +2,7 @@
 use crate::references::Refers;
 use crate::references::refers_at;
 use crate::site::Site;
+use crate::sure::sure;
 use crate::walk::Fixed;
 use cells::byte_at;
 use cells::wide;
@@ -11,7 +12,7 @@ ghost use lib.Dec.{eqb};
 ghost use lib.ListN.{getD};
 ghost use Rattle.format.specs.Lists.{pick};
 ghost use Rattle.place.specs.Named.{Named};
-ghost use Rattle.place.specs.Check.{countOne, countFor, countEntry, countLine, Tallied};
+ghost use Rattle.place.specs.Check.{countOne, countFor, countEntry, countLine, Tallied, Passes};
 ghost use Rattle.place.specs.Walk.{Ready};
 
 // One fixup more than k, for the i-th fragment: 12 if there is no number i of n, 13 if there are too many.
@@ -112,7 +113,7 @@ fn check_line(
     Fixed::Rows(k)
 }
 
-// The same, and nothing to do where the pair has no fragment.
+// Whether there is a refusal, and which; the walk is spared where it is sure that none comes.
 pub(crate) fn check_pair(
     table: &[u8; 2048],
     site: Site,
@@ -125,9 +126,9 @@ pub(crate) fn check_pair(
 ) -> Fixed
     requires { ⌜ Ready site ⌝ }
     requires { ⌜ Named (now table) (now ms) (site .line .fragments) ⌝ }
-    ensures { λ r. ⌜ Tallied (countLine (now (ms .entry)) (now (es .entry)) (now (xs .entry)) (now (areas .entry)) (now (symbols .entry)) site (now (wk .entry))) (site .filled .fixups) r ⌝ }
+    ensures { λ r. ⌜ Passes (countLine (now (ms .entry)) (now (es .entry)) (now (xs .entry)) (now (areas .entry)) (now (symbols .entry)) site (now (wk .entry))) r ⌝ }
 {
-    if site.line.fragments == 0 {
+    if sure(site, ms, xs) {
         return Fixed::Rows(site.filled.fixups);
     }
     check_line(table, site, ms, es, xs, areas, symbols, wk)

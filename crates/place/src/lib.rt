@@ -3,9 +3,15 @@ mod check;
 mod group;
 mod image;
 mod named;
+mod next;
 mod pair;
+mod pass;
+mod plain;
 mod references;
+mod row;
 mod site;
+mod spot;
+mod sure;
 mod walk;
 mod work_line;
 

@@ -1,11 +1,12 @@
 // A T and R pair of any area: one of a kept area is placed, any other changes nothing.
 use crate::image::write_image;
+use crate::pass::pair_rows;
+use crate::plain::write_plain;
 use crate::site::Found;
 use crate::site::Site;
 use crate::site::counts_fit;
 use crate::site::locate;
 use crate::walk::Fixed;
-use crate::walk::pair_rows;
 use crate::work_line::Worked;
 use crate::work_line::work_line;
 ghost use mathlib.Core.Path.{_≡_};
@@ -86,8 +87,8 @@ fn place_worked(
     r
 }
 
-// A pair of a kept area, on a work line of its own.
-fn process_relocs(
+// A pair with fragments, on a work line of its own.
+fn place_fragments(
     table: &[u8; 2048],
     site: Site,
     bs: &[u8],
@@ -121,6 +122,42 @@ fn process_relocs(
         &wv,
         &wm,
         &wk,
+        values,
+        masks,
+        rows,
+    )
+}
+
+// A pair of a kept area: one without fragments has no fixups, and its content is laid down as it is.
+fn process_relocs(
+    table: &[u8; 2048],
+    site: Site,
+    bs: &[u8],
+    ms: &[u32],
+    es: &[u32],
+    xs: &[u32],
+    areas: &[u32],
+    symbols: &[u32],
+    values: &mut [u8],
+    masks: &mut [u8],
+    rows: &mut [u32],
+) -> Fixed
+    requires { ⌜ Placeable (now table) site (now bs) (now ms) (now rows) ⌝ }
+    ensures { λ r. ⌜ Processed (pairAt site (now (bs .entry)) (now (ms .entry)) (now (es .entry)) (now (xs .entry)) (now (areas .entry)) (now (symbols .entry)) (stateOf (now (values .entry)) (now (masks .entry)) (now (rows .entry)) (site .filled .fixups))) (now (values .entry)) (now (masks .entry)) (now (rows .entry)) r (now (values .exit)) (now (masks .exit)) (now (rows .exit)) ⌝ }
+{
+    if site.line.fragments == 0 {
+        write_plain(site, bs, values, masks);
+        return Fixed::Rows(site.filled.fixups);
+    }
+    place_fragments(
+        table,
+        site,
+        bs,
+        ms,
+        es,
+        xs,
+        areas,
+        symbols,
         values,
         masks,
         rows,

@@ -1,6 +1,7 @@
 // What a fragment refers to: a symbol of another module, or a kept area of this one.
 use crate::named::class_at;
 use crate::pair::Filled;
+use crate::spot::spot_in;
 use cells::at;
 use cells::wide;
 use mode::gives;
@@ -48,13 +49,10 @@ fn kept_at(areas: &[u32], j: usize) -> u32
 }
 
 // The rank of the area i among the kept ones, plus 1; 0 if it is none of them.
-pub(crate) fn rank_of(areas: &[u32], n: usize, i: usize) -> u32
-    requires { ⌜ n ≤ 64 ⌝ }
+fn rank_at(areas: &[u32], n: usize, i: usize) -> u32
+    requires { ⌜ (n ≤ 64) × (i < n) ⌝ }
     ensures { λ r. ⌜ r ≡ plusOneOrZero (rank 0 (areasIn (now (areas .entry)) n) i) ⌝ }
 {
-    if n <= i {
-        return 0;
-    }
     let mut k: u32 = 0;
     let mut j: usize = 0;
     while j < i {
@@ -62,6 +60,21 @@ pub(crate) fn rank_of(areas: &[u32], n: usize, i: usize) -> u32
         j += 1;
     }
     if kept_at(areas, i) == 1 { k + 1 } else { 0 }
+}
+
+// The same for an area of any index, faster where all rows are lent.
+pub(crate) fn rank_of(areas: &[u32], n: usize, i: usize) -> u32
+    requires { ⌜ n ≤ 64 ⌝ }
+    ensures { λ r. ⌜ r ≡ plusOneOrZero (rank 0 (areasIn (now (areas .entry)) n) i) ⌝ }
+{
+    if n <= i {
+        return 0;
+    }
+    if areas.len() < 6 * n {
+        return rank_at(areas, n, i);
+    }
+    let spot = spot_in(areas, n, i);
+    spot.id
 }
 
 // A kept area by its id plus 1, with a value; or nothing.

@@ -3,6 +3,8 @@ use crate::named::names_classes;
 use crate::pair::Filled;
 use crate::pair::Line;
 use crate::references::rank_of;
+use crate::spot::Spot;
+use crate::spot::spot_in;
 use cells::at;
 use cells::wide;
 ghost use mathlib.Core.Path.{_≡_};
@@ -10,6 +12,7 @@ ghost use mathlib.Core.Bool.{_&&_};
 ghost use Prim.Native.Nat.{_≤_, _<_, _-_};
 ghost use Rattle.format.specs.Tables.{keptSize, offset};
 ghost use Rattle.laws.specs.Rows.{areaAt, areasIn};
+ghost use Rattle.place.specs.Spot.{Spotted};
 ghost use Rattle.place.specs.Site.{lineFits, filledFits, imageFits, siteAt, found};
 
 // Where a pair goes: its line, the counts of rows, the id of its area, where the image starts, its size, and how many numbers its fragments made.
@@ -98,12 +101,27 @@ fn offset_of(areas: &[u32], n: usize, i: usize) -> usize
     s
 }
 
-// The site of a pair whose area has an id, given plus 1.
-fn site_of(areas: &[u32], line: Line, filled: Filled, id: u32) -> Site
-    requires { ⌜ (filled .areas ≤ 64) × (line .area < filled .areas) × (1 ≤ id) ⌝ }
-    ensures { λ r. ⌜ (r ≡ siteAt line filled (id - 1) (offset (areasIn (now (areas .entry)) (filled .areas)) (line .area)) (areaAt (now (areas .entry)) (line .area) .size)) × (r .start < 274877906944) ⌝ }
+// The id and the start of the area i, faster where all rows are lent.
+fn spot_of(areas: &[u32], n: usize, i: usize) -> Spot
+    requires { ⌜ (n ≤ 64) × (i < n) ⌝ }
+    ensures { λ r. ⌜ Spotted (now (areas .entry)) n i r ⌝ }
 {
-    let start = offset_of(areas, filled.areas, line.area);
+    if 6 * n <= areas.len() {
+        return spot_in(areas, n, i);
+    }
+    let id = rank_of(areas, n, i);
+    let start = offset_of(areas, n, i);
+    Spot {
+        id: id,
+        start: start,
+    }
+}
+
+// The site of a pair whose area has an id, given plus 1, and an image that starts there.
+fn site_of(areas: &[u32], line: Line, filled: Filled, id: u32, start: usize) -> Site
+    requires { ⌜ (line .area < 64) × (1 ≤ id) ⌝ }
+    ensures { λ r. ⌜ r ≡ siteAt line filled (id - 1) start (areaAt (now (areas .entry)) (line .area) .size) ⌝ }
+{
     let size = at(areas, 6 * line.area + 2);
     Site {
         line: line,
@@ -137,11 +155,14 @@ pub(crate) fn locate(
     requires { ⌜ filled .areas ≤ 64 ⌝ }
     ensures { λ r. ⌜ r ≡ found (now (table .entry)) (now (ms .entry)) (areasIn (now (areas .entry)) (filled .areas)) line filled ⌝ }
 {
-    let id = rank_of(areas, filled.areas, line.area);
-    if id == 0 {
+    if filled.areas <= line.area {
         return Found::Unkept;
     }
-    let site = site_of(areas, line, filled, id);
+    let spot = spot_of(areas, filled.areas, line.area);
+    if spot.id == 0 {
+        return Found::Unkept;
+    }
+    let site = site_of(areas, line, filled, spot.id, spot.start);
     if !image_fits(table, ms, site) {
         return Found::Misfit;
     }

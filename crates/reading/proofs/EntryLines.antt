@@ -11,7 +11,6 @@ use mathlib.Core.Option.{Option}
 use Rattle.format.specs.Rows.{flag, given, plusOneOrZero, areaNumbers, symbolNumbers}
 use Rattle.format.specs.Lists.{pick}
 use Rattle.format.specs.Tables.{orZero, base, areaRow, named, lastIndex}
-use Rattle.format.specs.Number.{past}
 use Rattle.format.specs.Header.{Form}
 use Rattle.format.specs.Lines.{endLength}
 use Rattle.format.specs.Entries.{entryLine}
@@ -21,8 +20,8 @@ use mir.Val.{Fits}
 use mir.Syntax.{w64}
 use borrow.Author.Needs.{needs}
 use borrow.Author.Tests.{lt-ltb, le-ltb, eq-eqb, ne-eqb, leb-true}
-use Rattle.laws.specs.Places.{inner, lineEnd, endAt, nextLine, entryAt}
-use Rattle.laws.proofs.Within.{Holds, EntryIn, Named, entry-in, past-within}
+use Rattle.laws.specs.Places.{entryAt}
+use Rattle.laws.proofs.Within.{Holds, EntryIn, Named, entry-in}
 use Rattle.line.specs.Told.{entryOf, toldEntry, addrOf}
 use Rattle.line.specs.declared.Entry.{Entry}
 use Rattle.line.specs.declared.Entry.the-variants.{Area, Symbol, Ignored}

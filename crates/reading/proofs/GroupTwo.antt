@@ -35,8 +35,8 @@ use Rattle.place.specs.declared.pair.Filled.{Filled}
 use Rattle.place.specs.declared.pair.Line.{Line}
 use Rattle.place.specs.declared.pair.Placed as place
 use Rattle.place.specs.declared.pair.Placed.the-variants.{Done as Through, Stopped, Misfit}
-use Rattle.reading.specs.PairLines.{PlacedIs, BodyIs, stepTo, StepOf, StepSays, PairStepIs}
-use Rattle.reading.specs.Onward.{endsOf, Ended, stands, onward, onwardAt, toldTwo, FewIn, GroupedTwo, endingWith, endingOf, afterOf, steppedOf, standingIn, overOf, placedOf, lineFor, planOf, turnOf, twoOf, standingOf, filledOf, Sound, Ready, PlaceReady, Advances, GoesOn, TurnSays, TurnIs}
+use Rattle.reading.specs.PairLines.{AsLong, PlacedIs, BodyIs, stepTo, StepOf, StepSays, PairStepIs}
+use Rattle.reading.specs.Onward.{endsOf, Ended, stands, onward, onwardAt, toldTwo, FewIn, GroupedTwo, endingWith, endingOf, afterOf, steppedOf, standingIn, overOf, placedOf, lineFor, planOf, turnOf, twoOf, standingOf, filledOf, Sound, Ready, Columns, PlaceReady, Advances, GoesOn, TurnSays, TurnIs}
 use Rattle.reading.specs.declared.pair.Body.{Body}
 use Rattle.reading.specs.declared.pair.Body.the-variants.{Skipped, Placed}
 use Rattle.reading.specs.declared.pair.PairStep.{PairStep}
@@ -417,14 +417,14 @@ width-low wide.Two = omega arith
 width-low wide.Three = omega arith
 width-low wide.Four = omega arith
 
-pub zeros-256 : length {A = ℕ} (replicate 256 0) ≡ 256
+zeros-256 : length {A = ℕ} (replicate 256 0) ≡ 256
 zeros-256 = length-replicate {A = ℕ} 256 0
 
-pub zeros-64 : length {A = ℕ} (replicate 64 0) ≡ 64
+zeros-64 : length {A = ℕ} (replicate 64 0) ≡ 64
 zeros-64 = length-replicate {A = ℕ} 64 0
 
 module _ {ended : Bool} (f : text.Form) {text areas : List ℕ} {g : Going} (ready : Ready text areas g) {st : PairStep} {b ms es xs b′ ms′ es′ xs′ : List ℕ}
-    (v : PairStepIs ended (formOf f) text (g .next) st b ms es xs b′ ms′ es′ xs′) {pl : Plan} (e : pl ≡ planOf st g f) {l : Line} {g′ : Going} (i : pl ≡ Place l g′) (z : length b ≡ 256) where
+    (v : PairStepIs ended (formOf f) text (g .next) st b ms es xs b′ ms′ es′ xs′) {pl : Plan} (e : pl ≡ planOf st g f) {l : Line} {g′ : Going} (i : pl ≡ Place l g′) (z : Columns b ms es xs) where
   plan : Planned st g f l g′
   plan = planned st g f l g′ (sym e ∙ i)
 
@@ -443,7 +443,7 @@ module _ {ended : Bool} (f : text.Form) {text areas : List ℕ} {g : Going} (rea
         classes = h;
         address = width-low (f .width);
         content = plan .short;
-        lent = omega (arith, plan .short);
+        lent = omega (arith, plan .short, z .of-bytes);
         fragments = plan .few;
         areas-low = ready .areas-low;
         symbols-low = ready .symbols-low;
@@ -451,37 +451,36 @@ module _ {ended : Bool} (f : text.Form) {text areas : List ℕ} {g : Going} (rea
         room = j;
       }))
 
-  module _ (zm : length ms ≡ 64) (ze : length es ≡ 64) (zx : length xs ≡ 64) where
-    body-eq : the.placed (contentOf (lineFor f (g .next) (plan .address) (plan .count) (plan .area) (plan .fragments)) b′) (record { area = plan .area; fragments = fragmentsIn ms′ es′ xs′ (plan .fragments) }) ≡ here .pair
-    body-eq =
-        let few = plan .few in
-        let long : length (w .relocation .fragments) ≤ 64 = omega (arith, w .so .fragments) in
-        let c : contentOf (lineFor f (g .next) (plan .address) (plan .count) (plan .area) (plan .fragments)) b′ ≡ w .content =
-        λ j. record { address = w .so .address j; bytes = content-in (w .content .bytes) (plan .count) b (w .so .count) (omega (arith, plan .short)) (w .so .bytes) j } in
-        let fs : fragmentsIn ms′ es′ xs′ (plan .fragments) ≡ w .relocation .fragments =
-        ap (fragmentsIn ms′ es′ xs′) (w .so .fragments) ∙ fragments-in (w .relocation .fragments) (omega arith) (omega arith) (omega arith) (w .so .rows) in
-        let r : _≡_ {A = the.Relocation} (record { area = plan .area; fragments = fragmentsIn ms′ es′ xs′ (plan .fragments) }) (w .relocation) = λ j. record { area = w .so .area j; fragments = fs j } in
-        (λ j. the.placed (c j) (r j)) ∙ sym (w .is)
+  body-eq : the.placed (contentOf (lineFor f (g .next) (plan .address) (plan .count) (plan .area) (plan .fragments)) b′) (record { area = plan .area; fragments = fragmentsIn ms′ es′ xs′ (plan .fragments) }) ≡ here .pair
+  body-eq =
+      let few = plan .few in
+      let long : length (w .relocation .fragments) ≤ 64 = omega (arith, w .so .fragments) in
+      let c : contentOf (lineFor f (g .next) (plan .address) (plan .count) (plan .area) (plan .fragments)) b′ ≡ w .content =
+      λ j. record { address = w .so .address j; bytes = content-in (w .content .bytes) (plan .count) b (w .so .count) (omega (arith, plan .short, z .of-bytes)) (w .so .bytes) j } in
+      let fs : fragmentsIn ms′ es′ xs′ (plan .fragments) ≡ w .relocation .fragments =
+      ap (fragmentsIn ms′ es′ xs′) (w .so .fragments) ∙ fragments-in (w .relocation .fragments) (omega (arith, z .of-modes)) (omega (arith, z .of-entries)) (omega (arith, z .of-indexes)) (w .so .rows) in
+      let r : _≡_ {A = the.Relocation} (record { area = plan .area; fragments = fragmentsIn ms′ es′ xs′ (plan .fragments) }) (w .relocation) = λ j. record { area = w .so .area j; fragments = fs j } in
+      (λ j. the.placed (c j) (r j)) ∙ sym (w .is)
 
-    pub turn-places : (symbols : List ℕ) {vs fs rows : List ℕ} {r : Turn} {vs′ fs′ rows′ : List ℕ} → Advances l g′ b′ ms′ es′ xs′ areas symbols vs fs rows r vs′ fs′ rows′
-        → TurnIs ended (formOf f) text areas symbols (g .next) (onwardAt ended (formOf f) text areas symbols g vs fs rows) r vs′ fs′ rows′
-    unfolding pairOf
-    turn-places symbols {vs} {fs} {rows} {r} {vs′} {fs′} {rows′} d =
-        let line = lineFor f (g .next) (plan .address) (plan .count) (plan .area) (plan .fragments) in
-        let going = steppedOf g (g .lines + 1) (plan .end) (plan .next) (plan .on) in
-        let a : Advances line going b′ ms′ es′ xs′ areas symbols vs fs rows r vs′ fs′ rows′ =
-        subst (λ (x : Line). Advances x going b′ ms′ es′ xs′ areas symbols vs fs rows r vs′ fs′ rows′) (sym (plan .line))
-        (subst (λ (x : Going). Advances l x b′ ms′ es′ xs′ areas symbols vs fs rows r vs′ fs′ rows′) (sym (plan .going)) d) in
-        let t = tablesIn areas (g .areas) symbols (g .symbols) in
-        let x : Taken the.Pair = record { place = g .next; end = plan .end; body = here .pair } in
-        let h : stands (a .standing) vs′ fs′ rows′ ≡ andThen (stands (g .standing) vs fs rows) (λ s. placePair (formOf f) t s x) =
-        a .says (f .radix) (plan .end) ∙ ap (λ (q : the.Pair). andThen (stands (g .standing) vs fs rows) (λ s. placePair (formOf f) t s (record { place = g .next; end = plan .end; body = q }))) body-eq in
-        subst (λ (u : Turn). TurnIs ended (formOf f) text areas symbols (g .next) (onwardAt ended (formOf f) text areas symbols g vs fs rows) u vs′ fs′ rows′) (sym (a .answered))
-        (after-is ended (formOf f) text areas symbols (g .next) vs′ fs′ rows′ (standingIn going (a .standing))
-        (ready-then f symbols ready v vs fs rows here (g .lines + 1) (omega arith) (a .standing) (a .sound)) (a .sound)
-        (at-here f symbols ready v vs fs rows _ (at-takes ended (formOf f) text (g .next) here)
-        ∙ onward-step (formOf f) t x (pick (plan .on) (pairsAt ended (formOf f) text (plan .next)) []) g (g .lines + 1) (plan .next) (plan .on) (a .standing) vs fs rows vs′ fs′ rows′
-        (fits-both (here .pair) (g .next) (plan .end) (g .lines) w (plan .short) (plan .few)) h))
+  pub turn-places : (symbols : List ℕ) {vs fs rows : List ℕ} {r : Turn} {vs′ fs′ rows′ : List ℕ} → Advances l g′ b′ ms′ es′ xs′ areas symbols vs fs rows r vs′ fs′ rows′
+      → TurnIs ended (formOf f) text areas symbols (g .next) (onwardAt ended (formOf f) text areas symbols g vs fs rows) r vs′ fs′ rows′
+  unfolding pairOf
+  turn-places symbols {vs} {fs} {rows} {r} {vs′} {fs′} {rows′} d =
+      let line = lineFor f (g .next) (plan .address) (plan .count) (plan .area) (plan .fragments) in
+      let going = steppedOf g (g .lines + 1) (plan .end) (plan .next) (plan .on) in
+      let a : Advances line going b′ ms′ es′ xs′ areas symbols vs fs rows r vs′ fs′ rows′ =
+      subst (λ (x : Line). Advances x going b′ ms′ es′ xs′ areas symbols vs fs rows r vs′ fs′ rows′) (sym (plan .line))
+      (subst (λ (x : Going). Advances l x b′ ms′ es′ xs′ areas symbols vs fs rows r vs′ fs′ rows′) (sym (plan .going)) d) in
+      let t = tablesIn areas (g .areas) symbols (g .symbols) in
+      let x : Taken the.Pair = record { place = g .next; end = plan .end; body = here .pair } in
+      let h : stands (a .standing) vs′ fs′ rows′ ≡ andThen (stands (g .standing) vs fs rows) (λ s. placePair (formOf f) t s x) =
+      a .says (f .radix) (plan .end) ∙ ap (λ (q : the.Pair). andThen (stands (g .standing) vs fs rows) (λ s. placePair (formOf f) t s (record { place = g .next; end = plan .end; body = q }))) body-eq in
+      subst (λ (u : Turn). TurnIs ended (formOf f) text areas symbols (g .next) (onwardAt ended (formOf f) text areas symbols g vs fs rows) u vs′ fs′ rows′) (sym (a .answered))
+      (after-is ended (formOf f) text areas symbols (g .next) vs′ fs′ rows′ (standingIn going (a .standing))
+      (ready-then f symbols ready v vs fs rows here (g .lines + 1) (omega arith) (a .standing) (a .sound)) (a .sound)
+      (at-here f symbols ready v vs fs rows _ (at-takes ended (formOf f) text (g .next) here)
+      ∙ onward-step (formOf f) t x (pick (plan .on) (pairsAt ended (formOf f) text (plan .next)) []) g (g .lines + 1) (plan .next) (plan .on) (a .standing) vs fs rows vs′ fs′ rows′
+      (fits-both (here .pair) (g .next) (plan .end) (g .lines) w (plan .short) (plan .few)) h))
 
 -- what a turn asks on the way
 pub ready-inside : {text areas : List ℕ} {g : Going} → Ready text areas g → g .next ≤ length text
@@ -490,7 +489,16 @@ ready-inside w = w .inside
 pub ready-low : {text areas : List ℕ} {g : Going} → Ready text areas g → length text ≤ 65536 → g .lines ≤ 65536
 ready-low w h = omega (arith, w .low, w .inside)
 
-pub ruleset turns = (needs, zeros-256, zeros-64, ready-inside, ready-low, turn-leaves, turn-ready, turn-places)
+pub ruleset turns = (needs, ready-inside, ready-low, turn-leaves, turn-ready, turn-places)
+
+-- what is lent to a turn can be lent to the next
+pub columns-start : Columns (replicate 256 0) (replicate 64 0) (replicate 64 0) (replicate 64 0)
+columns-start = record { of-bytes = zeros-256; of-modes = zeros-64; of-entries = zeros-64; of-indexes = zeros-64 }
+
+pub columns-then : {b ms es xs b′ ms′ es′ xs′ : List ℕ} → Columns b ms es xs → AsLong b ms es xs b′ ms′ es′ xs′ → Columns b′ ms′ es′ xs′
+columns-then w v = record { of-bytes = v .bytes ∙ w .of-bytes; of-modes = v .modes ∙ w .of-modes; of-entries = v .entries ∙ w .of-entries; of-indexes = v .indexes ∙ w .of-indexes }
+
+pub ruleset lending = (needs, columns-start, columns-then)
 
 -- ------------------------------------------------------------------ the loop
 

@@ -29,7 +29,7 @@ use Rattle.reading.specs.Answer.{toldCounts, held}
 use Rattle.reading.specs.WayIn.{Rooms}
 use Rattle.reading.specs.GroupOne.{Hold, Read, Grouped}
 use Rattle.reading.specs.Onward.{Ended, endsOf, onward, onwardAt, toldTwo, GroupedTwo, endingOf, Ready}
-use Rattle.reading.specs.Laid.{SizesAre, goingAt, startingOf, pairsFrom, onwardFrom, SecondIs, Whole, wholeOf, wholeAt, wholeLines, verdictAt, Laid, TablesOut, ImagesOut, countsFrom, AcceptedIs, HeaderOnly, answerOne, answerTwo, RestIs}
+use Rattle.reading.specs.Laid.{goingAt, startingOf, Begun, Blank, pairsFrom, onwardFrom, SecondIs, Whole, wholeOf, wholeAt, wholeLines, verdictAt, Laid, TablesOut, ImagesOut, countsFrom, AcceptedIs, HeaderOnly, answerOne, answerTwo, RestIs}
 use Rattle.reading.specs.declared.Answer as code
 use Rattle.reading.specs.declared.Answer.the-variants.{Refusal, Accepted}
 use Rattle.reading.specs.declared.Verdict.the-variants.{Finished, Stopped}
@@ -129,9 +129,6 @@ zeros-5120 = length-replicate {A = ℕ} 5120 0
 pub zeros-9216 : length {A = ℕ} (replicate 9216 0) ≡ 9216
 zeros-9216 = length-replicate {A = ℕ} 9216 0
 
-pub zeros-65536 : length {A = ℕ} (replicate 65536 0) ≡ 65536
-zeros-65536 = length-replicate {A = ℕ} 65536 0
-
 pub fresh-rows : 9216 ≤ length {A = ℕ} (replicate 9216 0)
 fresh-rows = rw zeros-9216 (omega arith)
 
@@ -161,15 +158,18 @@ module _ (f : Form) (t : Tables) (ps : List (Taken the.Pair)) (d : Found) (z : �
       ap (λ (b : Bool). andThen (fold fits 0 ps) (λ n. andThen (pick b (fine (total (t .areas))) (refused 9 0)) (λ z. andThen (placing f t ps) (λ s. fine (record { built = record { tables = t; lines = n; size = z; state = s }; stop = lastOf (d .stop) (endsOf ps) }))))) l
       ∙ nine (fold fits 0 ps) (λ e. fine (wholeFrom t z e))
 
-  whole-placed : z ≤ 65536 → wholeAt f t ps (d .stop) ≡ andThen (onward f t ps (goingAt d z (d .more) (Made 0)) (take z (replicate 65536 0)) (take z (replicate 65536 0)) rows) (λ e. fine (wholeFrom t z e))
+  whole-placed : z ≤ 65536 → (vs ms : List ℕ) → vs ≡ replicate z 0 → ms ≡ replicate z 0 → wholeAt f t ps (d .stop) ≡ andThen (onward f t ps (goingAt d z (d .more) (Made 0)) vs ms rows) (λ e. fine (wholeFrom t z e))
   unfolding wholeAt onward room counted placing stateOf fixupsIn from
-  whole-placed h =
+  whole-placed h vs ms bv bm =
       let l : leb (total (t .areas)) 65536 ≡ true = le-leb (total (t .areas)) 65536 (omega arith) in
-      let r : take {A = ℕ} z (replicate 65536 0) ≡ replicate (total (t .areas)) 0 = zeros-taken z 65536 h ∙ ap (λ (m : ℕ). replicate {A = ℕ} m 0) ez in
+      let r : vs ≡ replicate (total (t .areas)) 0 = bv ∙ ap (λ (m : ℕ). replicate {A = ℕ} m 0) ez in
+      let q : ms ≡ replicate (total (t .areas)) 0 = bm ∙ ap (λ (m : ℕ). replicate {A = ℕ} m 0) ez in
+      let first : _≡_ {A = State} (record { values = replicate (total (t .areas)) 0; masks = replicate (total (t .areas)) 0; fixups = [] }) (record { values = vs; masks = ms; fixups = [] }) =
+      λ j. record { values = sym r j; masks = sym q j; fixups = [] } in
       ap (λ (b : Bool). andThen (fold fits 0 ps) (λ n. andThen (pick b (fine (total (t .areas))) (refused 9 0)) (λ z. andThen (placing f t ps) (λ s. fine (record { built = record { tables = t; lines = n; size = z; state = s }; stop = lastOf (d .stop) (endsOf ps) }))))) l
       ∙ (ap (λ (m : ℕ). andThen (fold fits 0 ps) (λ n. andThen (placing f t ps) (λ s. fine (record { built = record { tables = t; lines = n; size = m; state = s }; stop = lastOf (d .stop) (endsOf ps) })))) (sym ez)
       ∙ (placed-all t z (lastOf (d .stop) (endsOf ps)) (fold fits 0 ps) (placing f t ps)
-      ∙ ap (λ (vs : List ℕ). andThen (andThen (fold fits 0 ps) (λ n. andThen (fold (placePair f t) (record { values = vs; masks = vs; fixups = [] }) ps) (λ s. fine (record { lines = n; stop = lastOf (d .stop) (endsOf ps); state = s })))) (λ e. fine (wholeFrom t z e))) (sym r)))
+      ∙ ap (λ (x : State). andThen (andThen (fold fits 0 ps) (λ n. andThen (fold (placePair f t) x ps) (λ s. fine (record { lines = n; stop = lastOf (d .stop) (endsOf ps); state = s })))) (λ e. fine (wholeFrom t z e))) first))
 
   never-fine : (c : Outcome ℕ) (e : Ended) → fine e ≡ andThen c (λ n. refused 9 0) → ⊥
   never-fine (fine n) e h = let y : _≡_ {A = ℕ} 0 1 = cc in omega arith
@@ -184,57 +184,73 @@ module _ (ended : Bool) (f : Form) (text : List ℕ) (d : Found) (xs ys : List �
   starts : (b : Bool) → ltb 65536 z ≡ b → Going
   starts b h = pick b (goingAt d 0 (d .more) (Kept 9 0)) (goingAt d z (d .more) (Made 0))
 
-  fresh-whole : (b : Bool) (h : ltb 65536 z ≡ b)
-      → wholeAt f t (pairsFrom ended f text (d .next) (d .more)) (d .stop)
-      ≡ andThen (onwardFrom ended f text xs ys (starts b h) (take (starts b h .positions) (replicate 65536 0)) (take (starts b h .positions) (replicate 65536 0)) rows) (λ e. fine (wholeFrom t z e))
-  unfolding onwardFrom starts
-  fresh-whole true h =
-      let ps = pairsFrom ended f text (d .next) (d .more) in
-      whole-nine f t ps d z ez rows (ltb-true 65536 z h) [] []
-      ∙ ap (λ (x : Tables). andThen (onward f x ps (goingAt d 0 (d .more) (Kept 9 0)) [] [] rows) (λ e. fine (wholeFrom t z e))) (sym et)
-  fresh-whole false h =
-      let ps = pairsFrom ended f text (d .next) (d .more) in
-      whole-placed f t ps d z ez rows (ltb-false 65536 z h)
-      ∙ ap (λ (x : Tables). andThen (onward f x ps (goingAt d z (d .more) (Made 0)) (take z (replicate 65536 0)) (take z (replicate 65536 0)) rows) (λ e. fine (wholeFrom t z e))) (sym et)
+  module _ (vs ms : List ℕ) where
+    fresh-whole : (b : Bool) (h : ltb 65536 z ≡ b) → take (starts b h .positions) vs ≡ replicate (starts b h .positions) 0 → take (starts b h .positions) ms ≡ replicate (starts b h .positions) 0
+        → wholeAt f t (pairsFrom ended f text (d .next) (d .more)) (d .stop)
+        ≡ andThen (onwardFrom ended f text xs ys (starts b h) (take (starts b h .positions) vs) (take (starts b h .positions) ms) rows) (λ e. fine (wholeFrom t z e))
+    unfolding onwardFrom starts
+    fresh-whole true h bv bm =
+        let ps = pairsFrom ended f text (d .next) (d .more) in
+        whole-nine f t ps d z ez rows (ltb-true 65536 z h) [] []
+        ∙ ap (λ (x : Tables). andThen (onward f x ps (goingAt d 0 (d .more) (Kept 9 0)) [] [] rows) (λ e. fine (wholeFrom t z e))) (sym et)
+    fresh-whole false h bv bm =
+        let ps = pairsFrom ended f text (d .next) (d .more) in
+        whole-placed f t ps d z ez rows (ltb-false 65536 z h) (take z vs) (take z ms) bv bm
+        ∙ ap (λ (x : Tables). andThen (onward f x ps (goingAt d z (d .more) (Made 0)) (take z vs) (take z ms) rows) (λ e. fine (wholeFrom t z e))) (sym et)
 
-  fresh-fits : (b : Bool) (h : ltb 65536 z ≡ b) (e : Ended)
-      → fine e ≡ onwardFrom ended f text xs ys (starts b h) (take (starts b h .positions) (replicate 65536 0)) (take (starts b h .positions) (replicate 65536 0)) rows → (starts b h .positions ≡ z) × (z ≤ 65536)
-  unfolding onwardFrom starts
-  fresh-fits true h e i = absurd (fine-fits f (tablesIn xs (d .areas) ys (d .symbols)) (pairsFrom ended f text (d .next) (d .more)) d (total (tablesIn xs (d .areas) ys (d .symbols) .areas)) refl rows [] [] e i)
-  fresh-fits false h e i = (refl, ltb-false 65536 z h)
+    fresh-fits : (b : Bool) (h : ltb 65536 z ≡ b) (e : Ended)
+        → fine e ≡ onwardFrom ended f text xs ys (starts b h) (take (starts b h .positions) vs) (take (starts b h .positions) ms) rows → (starts b h .positions ≡ z) × (z ≤ 65536)
+    unfolding onwardFrom starts
+    fresh-fits true h e i = absurd (fine-fits f (tablesIn xs (d .areas) ys (d .symbols)) (pairsFrom ended f text (d .next) (d .more)) d (total (tablesIn xs (d .areas) ys (d .symbols) .areas)) refl rows [] [] e i)
+    fresh-fits false h e i = (refl, ltb-false 65536 z h)
 
 -- what group two asks of its start
-module _ (d : Found) {xs : List ℕ} {s : Sizes} (w : SizesAre xs (d .areas) s) {g : Going} (e : g ≡ startingOf d (s .total)) where
-  pub start-ready : {text : List ℕ} → d .next ≤ length text → d .areas ≤ 64 → d .symbols ≤ 1024 → Ready text xs g
-  start-ready {text} h i j = rw e (go (ltb 65536 (s .total)) refl)
+module _ {text : List ℕ} (d : Found) {xs : List ℕ} {s : Sizes} (u : Begun text xs d s) {g : Going} (e : g ≡ startingOf d (s .total)) where
+  pub start-ready : Ready text xs g
+  start-ready = rw e (go (ltb 65536 (s .total)) refl)
     where
       go : (b : Bool) → ltb 65536 (s .total) ≡ b → Ready text xs (pick b (goingAt d 0 (d .more) (Kept 9 0)) (goingAt d (s .total) (d .more) (Made 0)))
-      go true k = record { inside = h; low = omega arith; areas-low = i; symbols-low = j; sound = tt }
-      go false k = record { inside = h; low = omega arith; areas-low = i; symbols-low = j; sound = (omega arith, omega (arith, w .total-is, ltb-false 65536 (s .total) k)) }
+      go true k = record { inside = u .inside; low = omega arith; areas-low = u .areas-low; symbols-low = u .symbols-low; sound = tt }
+      go false k = record { inside = u .inside; low = omega arith; areas-low = u .areas-low; symbols-low = u .symbols-low; sound = (omega arith, omega (arith, u .sizes .total-is, ltb-false 65536 (s .total) k)) }
 
-  pub start-low : {n : ℕ} → n ≡ 65536 → g .positions ≤ n
-  start-low h = rw (e, h) (go (ltb 65536 (s .total)) refl)
-    where
-      go : (b : Bool) → ltb 65536 (s .total) ≡ b → pick b (goingAt d 0 (d .more) (Kept 9 0)) (goingAt d (s .total) (d .more) (Made 0)) .positions ≤ 65536
-      go true k = omega arith
-      go false k = ltb-false 65536 (s .total) k
+  pub start-short : length text ≤ 65536
+  start-short = u .short
 
--- ------------------------------------------------------------------ `rest`
+  pub start-long : {vs : List ℕ} → Blank (startingOf d (s .total) .positions) vs → g .positions ≤ length vs
+  start-long b = rw e (b .long)
 
-module _ {ended : Bool} {f : Form} {text : List ℕ} (d : Found) {xs ys : List ℕ} {s : Sizes} (w : SizesAre xs (d .areas) s) {g : Going} (e : g ≡ startingOf d (s .total)) {two : Two} {rows₀ vs ms rows : List ℕ}
-    (v : SecondIs ended f text xs ys g (replicate 65536 0) (replicate 65536 0) rows₀ two vs ms rows) (ha : d .areas ≤ 64) (hs : d .symbols ≤ 1024) where
+-- images of zeros, of two sizes
+blank-of : (n m : ℕ) → n ≤ m → Blank n (replicate m 0)
+blank-of n m h = record { zeros = zeros-taken n m h; long = rw (length-replicate {A = ℕ} m 0) h }
+
+pub blank-small : (d : Found) (z : ℕ) → z ≤ 4096 → Blank (startingOf d z .positions) (replicate 4096 0)
+blank-small d z h = let l : ltb 65536 z ≡ false = le-ltb 65536 z (omega arith) in rw l (blank-of z 4096 h)
+
+pub blank-large : {text xs : List ℕ} {d : Found} {s : Sizes} → Begun text xs d s → Blank (startingOf d (s .total) .positions) (replicate 65536 0)
+blank-large {text} {xs} {d} {s} u = go (ltb 65536 (s .total)) refl
+  where
+    go : (b : Bool) → ltb 65536 (s .total) ≡ b → Blank (pick b (goingAt d 0 (d .more) (Kept 9 0)) (goingAt d (s .total) (d .more) (Made 0)) .positions) (replicate 65536 0)
+    go true k = blank-of 0 65536 (omega arith)
+    go false k = blank-of (s .total) 65536 (ltb-false 65536 (s .total) k)
+
+pub ruleset sizing = (needs, blank-small, blank-large)
+
+-- ------------------------------------------------------------------ `over_images`
+
+module _ {ended : Bool} {f : Form} {text : List ℕ} (d : Found) {xs ys : List ℕ} {s : Sizes} (u : Begun text xs d s) {g : Going} (e : g ≡ startingOf d (s .total)) {two : Two} {vs₀ ms₀ rows₀ vs ms rows : List ℕ}
+    (bv : Blank (startingOf d (s .total) .positions) vs₀) (bm : Blank (startingOf d (s .total) .positions) ms₀) (v : SecondIs ended f text xs ys g vs₀ ms₀ rows₀ two vs ms rows) where
   same-tables : {t : Tables} {xs₀ ys₀ : List ℕ} → length xs₀ ≡ 384 → length ys₀ ≡ 5120 → Hold t xs₀ ys₀ xs ys (d .areas) (d .symbols) → tablesIn xs (d .areas) ys (d .symbols) ≡ t
-  same-tables lx ly h = tables-held h (omega arith) (omega arith)
+  same-tables lx ly h = tables-held h (omega (arith, u .areas-low)) (omega (arith, u .symbols-low))
 
   same-total : {t : Tables} {xs₀ ys₀ : List ℕ} → length xs₀ ≡ 384 → length ys₀ ≡ 5120 → Hold t xs₀ ys₀ xs ys (d .areas) (d .symbols) → s .total ≡ total (t .areas)
-  same-total lx ly h = w .total-is ∙ ap total (areas-held h (omega arith) (omega arith))
+  same-total lx ly h = u .sizes .total-is ∙ ap total (areas-held h (omega (arith, u .areas-low)) (omega (arith, u .symbols-low)))
 
   comes-to : {t : Tables} {xs₀ ys₀ : List ℕ} → length xs₀ ≡ 384 → length ys₀ ≡ 5120 → Hold t xs₀ ys₀ xs ys (d .areas) (d .symbols)
       → wholeAt f t (pairsFrom ended f text (d .next) (d .more)) (d .stop) ≡ andThen (toldTwo two (take (g .positions) vs) (take (g .positions) ms) rows) (λ x. fine (wholeFrom t (s .total) x))
   unfolding starts
   comes-to {t} lx ly h =
-      fresh-whole ended f text d xs ys t (s .total) (same-tables lx ly h) (same-total lx ly h) rows₀ (ltb 65536 (s .total)) refl
-      ∙ (ap (λ (x : Going). andThen (onwardFrom ended f text xs ys x (take (x .positions) (replicate 65536 0)) (take (x .positions) (replicate 65536 0)) rows₀) (λ x. fine (wholeFrom t (s .total) x))) (sym e)
+      fresh-whole ended f text d xs ys t (s .total) (same-tables lx ly h) (same-total lx ly h) rows₀ vs₀ ms₀ (ltb 65536 (s .total)) refl (bv .zeros) (bm .zeros)
+      ∙ (ap (λ (x : Going). andThen (onwardFrom ended f text xs ys x (take (x .positions) vs₀) (take (x .positions) ms₀) rows₀) (λ x. fine (wholeFrom t (s .total) x))) (sym e)
       ∙ ap (λ (o : Outcome Ended). andThen o (λ x. fine (wholeFrom t (s .total) x))) (sym (v .grouped .says)))
 
   pub rest-refused : {n p : ℕ} → two ≡ Rejected n p → {r : code.Answer} → r ≡ answerTwo two → (old : Held) → RestIs ended f text d xs ys old r old
@@ -259,9 +275,9 @@ module _ {ended : Bool} {f : Form} {text : List ℕ} (d : Found) {xs ys : List �
     unfolding starts tablesIn areasIn
     long =
         let fine-is : fine (record { lines = lines; stop = stop; state = stateOf (take (g .positions) vs) (take (g .positions) ms) rows k })
-        ≡ onwardFrom ended f text xs ys g (take (g .positions) (replicate 65536 0)) (take (g .positions) (replicate 65536 0)) rows₀ = rw h at (v .grouped .says) in
-        let start : _ = ap (λ (x : Going). onwardFrom ended f text xs ys x (take (x .positions) (replicate 65536 0)) (take (x .positions) (replicate 65536 0)) rows₀) e in
-        let z = fresh-fits ended f text d xs ys (tablesIn xs (d .areas) ys (d .symbols)) (s .total) refl (w .total-is) rows₀ (ltb 65536 (s .total)) refl _ (fine-is ∙ start) in
+        ≡ onwardFrom ended f text xs ys g (take (g .positions) vs₀) (take (g .positions) ms₀) rows₀ = rw h at (v .grouped .says) in
+        let start : _ = ap (λ (x : Going). onwardFrom ended f text xs ys x (take (x .positions) vs₀) (take (x .positions) ms₀) rows₀) e in
+        let z = fresh-fits ended f text d xs ys (tablesIn xs (d .areas) ys (d .symbols)) (s .total) refl (u .sizes .total-is) rows₀ vs₀ ms₀ (ltb 65536 (s .total)) refl _ (fine-is ∙ start) in
         (ap (λ (x : Going). x .positions) e ∙ z .0, z .1)
 
     pub rest-done : {c : Counts} → c ≡ countsFrom d s lines k → {areas symbols values masks fixups areas′ symbols′ values′ masks′ fixups′ : List ℕ}
@@ -276,7 +292,7 @@ module _ {ended : Bool} {f : Form} {text : List ℕ} (d : Found) {xs ys : List �
         lay t xs₀ ys₀ lx ly k₀ =
             let o : wholeAt f t (pairsFrom ended f text (d .next) (d .more)) (d .stop) ≡ fine (wholeFrom t (s .total) (record { lines = lines; stop = stop; state = stateOf (take (g .positions) vs) (take (g .positions) ms) rows k })) =
             comes-to lx ly k₀ ∙ rw h in
-            let kept : s .kept ≡ keptCount (t .areas) = w .kept-is ∙ ap keptCount (areas-held k₀ (omega arith) (omega arith)) in
+            let kept : s .kept ≡ keptCount (t .areas) = u .sizes .kept-is ∙ ap keptCount (areas-held k₀ (omega (arith, u .areas-low)) (omega (arith, u .symbols-low))) in
             let counts : _≡_ {A = paper.Counts} (toldCounts (countsFrom d s lines k)) (record { areas = length (t .areas); symbols = length (t .symbols); lines = lines; kept = keptCount (t .areas); positions = s .total; fixups = length (from (fixupRow rows) 0 k) }) =
             λ j. record { areas = k₀ .area-count j; symbols = k₀ .symbol-count j; lines = lines; kept = kept j; positions = s .total; fixups = sym (rows-counted rows 0 k) j } in
             let la = flat-length areaNumbers 6 six-numbers (t .areas) in
@@ -289,8 +305,8 @@ module _ {ended : Bool} {f : Form} {text : List ℕ} (d : Found) {xs ys : List �
             subst (λ (x : Outcome Whole). Laid (length text) x (held areas symbols values masks fixups) r (held areas′ symbols′ values′ masks′ fixups′)) (sym o)
             (record {
               says = b .accepts ∙ ap (λ (x : paper.Counts). paper.accepted x (verdictAt (length text) stop)) (ap toldCounts i ∙ counts);
-              areas = copied (flat areaNumbers (t .areas)) xs₀ xs areas areas′ (6 * d .areas) (k₀ .areas) (omega (arith, la, k₀ .area-count)) (omega (arith, la, k₀ .area-count)) (omega (arith, la, k₀ .area-count, rooms .for-areas)) ta;
-              symbols = copied (flat symbolNumbers (t .symbols)) ys₀ ys symbols symbols′ (5 * d .symbols) (k₀ .symbols) (omega (arith, ls, k₀ .symbol-count)) (omega (arith, ls, k₀ .symbol-count)) (omega (arith, ls, k₀ .symbol-count, rooms .for-symbols)) ts;
+              areas = copied (flat areaNumbers (t .areas)) xs₀ xs areas areas′ (6 * d .areas) (k₀ .areas) (omega (arith, la, k₀ .area-count)) (omega (arith, la, k₀ .area-count, u .areas-low)) (omega (arith, la, k₀ .area-count, u .areas-low, rooms .for-areas)) ta;
+              symbols = copied (flat symbolNumbers (t .symbols)) ys₀ ys symbols symbols′ (5 * d .symbols) (k₀ .symbols) (omega (arith, ls, k₀ .symbol-count)) (omega (arith, ls, k₀ .symbol-count, u .symbols-low)) (omega (arith, ls, k₀ .symbol-count, u .symbols-low, rooms .for-symbols)) ts;
               values = pictured vs values values′ (s .total) (omega (arith, long .1, rooms .for-values)) iv ∙ ap (λ (n : ℕ). over (take n vs) values) (sym (long .0));
               masks = pictured ms masks masks′ (s .total) (omega (arith, long .1, rooms .for-masks)) im ∙ ap (λ (n : ℕ). over (take n ms) masks) (sym (long .0));
               fixups = fx ∙ ap (λ (n : ℕ). over (areasFor n 0 (fixupsIn rows k)) fixups) kept;
@@ -298,19 +314,20 @@ module _ {ended : Bool} {f : Form} {text : List ℕ} (d : Found) {xs ys : List �
 
 -- what is asked of the counts
 module _ {c : Counts} (d : Found) {s : Sizes} {lines k : ℕ} (e : c ≡ countsFrom d s lines k) where
-  pub counts-areas : d .areas ≤ 64 → c .areas ≤ 64
-  counts-areas h = rw e h
+  module _ {text xs : List ℕ} (u : Begun text xs d s) where
+    pub counts-areas : c .areas ≤ 64
+    counts-areas = rw e (u .areas-low)
 
-  pub counts-symbols : d .symbols ≤ 1024 → c .symbols ≤ 1024
-  counts-symbols h = rw e h
+    pub counts-symbols : c .symbols ≤ 1024
+    counts-symbols = rw e (u .symbols-low)
 
-  pub counts-kept : {xs : List ℕ} {n : ℕ} → SizesAre xs n s → c .kept ≤ 64
-  counts-kept w = rw e (w .kept-low)
+    pub counts-kept : c .kept ≤ 64
+    counts-kept = rw e (u .sizes .kept-low)
 
   pub counts-fixups : {n : ℕ} → 9 * k ≤ n → 9 * c .fixups ≤ n
   counts-fixups h = rw e h
 
-pub ruleset rests = (needs, zeros-9216, zeros-65536, start-ready, start-low, rest-refused, rest-rows, rest-out, rest-done, counts-areas, counts-symbols, counts-kept, counts-fixups)
+pub ruleset rests = (needs, zeros-9216, fresh-rows, start-ready, start-short, start-long, rest-refused, rest-rows, rest-out, rest-done, counts-areas, counts-symbols, counts-kept, counts-fixups)
 
 -- ------------------------------------------------------------------ `read_lines`
 

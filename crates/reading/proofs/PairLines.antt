@@ -6,7 +6,7 @@ use mathlib.Core.Bool.{Bool, true, false, _&&_}
 use mathlib.Core.List.{List}
 use native.Mathlib.Omega.{arith}
 use lib.ListN.{length, take, drop, getD, length-drop}
-use lib.Seq.{sets, length-take-le}
+use lib.Seq.{sets, length-sets, length-take-le}
 use lib.Dec.{leb, eqb}
 use mir.Val.{Fits as Fit64}
 use mir.Syntax.{w64}
@@ -22,14 +22,14 @@ use Rattle.format.specs.Records.{Step, stops, last, goes, stepOf}
 use Rattle.format.specs.Pairs as the
 use Rattle.laws.specs.Places.{nextLine, lineAt, pairAt}
 use Rattle.laws.proofs.Within.{Holds, PairIn, pair-in, Upto, relocation-keeps}
-use Rattle.line.specs.Pairs.{bytesIn, counted as countedOf, toldContent, fragmentsIn, numbered, toldRelocation, Rows}
+use Rattle.line.specs.Pairs.{Contents, Relocations, bytesIn, counted as countedOf, toldContent, fragmentsIn, numbered, toldRelocation, modes, entries, indexes, Rows}
 use Rattle.line.specs.declared.ContentLine.{ContentLine}
 use Rattle.line.specs.declared.ContentLine.the-variants.{Content, NoContent}
 use Rattle.line.specs.declared.RelocationLine.{RelocationLine}
 use Rattle.line.specs.declared.RelocationLine.the-variants.{Relocation, NoRelocation}
 use Rattle.line.proofs.Laws.Content.{content-is, content-count, content-isnt, whole-is}
 use Rattle.line.proofs.Laws.Relocations.{relocation-is, relocation-count, relocation-isnt}
-use Rattle.reading.specs.PairLines.{none, upto, caseOf, lineOf, BodyIs, PairSays, PairIs, StepSays, PairStepIs, UsedBounds, UsedIn, stepFrom}
+use Rattle.reading.specs.PairLines.{none, upto, caseOf, lineOf, AsLong, BodyIs, PairSays, PairIs, StepSays, PairStepIs, UsedBounds, UsedIn, stepFrom}
 use Rattle.reading.specs.declared.pair.Body.{Body}
 use Rattle.reading.specs.declared.pair.Body.the-variants.{Skipped, Placed}
 use Rattle.reading.specs.declared.pair.PairLine.{PairLine}
@@ -183,6 +183,24 @@ module _ (f : Form) (w : ℕ) (s r : List ℕ) where
             read x y = rw (x, y)
 
 pub ruleset pairing = (needs, pair-1, pair-2, pair-fits, pair-3)
+
+-- what was lent stays as long, whatever is stored in it
+pub long-0 : (b ms es xs : List ℕ) → AsLong b ms es xs b ms es xs
+long-0 b ms es xs = record { bytes = refl; modes = refl; entries = refl; indexes = refl }
+
+module _ {m q : Got the.Content} {c : ContentLine} {b b′ : List ℕ} (e : Contents m q b c b′) where
+  pub long-1 : (ms es xs : List ℕ) → AsLong b ms es xs b′ ms es xs
+  long-1 ms es xs = record { bytes = rw (e .stored) (length-sets b 0 (bytesIn q)); modes = refl; entries = refl; indexes = refl }
+
+  pub long-2 : {n : Got the.Relocation} {r : RelocationLine} {ms es xs ms′ es′ xs′ : List ℕ} → Relocations n r ms es xs ms′ es′ xs′ → AsLong b ms es xs b′ ms′ es′ xs′
+  long-2 {n} {r} {ms} {es} {xs} w = record {
+    bytes = rw (e .stored) (length-sets b 0 (bytesIn q));
+    modes = rw (w .stored .of-modes) (length-sets ms 0 (modes (fragmentsIn n)));
+    entries = rw (w .stored .of-entries) (length-sets es 0 (entries (fragmentsIn n)));
+    indexes = rw (w .stored .of-indexes) (length-sets xs 0 (indexes (fragmentsIn n)));
+  }
+
+pub ruleset longs = (needs, long-0, long-1, long-2)
 
 -- `pair_step`
 module _ (s : List ℕ) {p : ℕ} {l : LineAt} (w : LineIs s p l) where

@@ -13,11 +13,11 @@ use borrow.Author.Needs.{needs}
 use borrow.Author.Tests.{lt-ltb, le-ltb, le-leb, lt-leb, leb-true}
 use Rattle.format.specs.Reading.{lentRoom, firstHigh, allowed}
 use Rattle.text.proofs.Laws.Tests.{was-no, was-yes}
-use Rattle.reading.specs.WayIn.{highOf, roomy, Rooms, GateIs}
+use Rattle.reading.specs.WayIn.{highOf, Caps, roomy, Rooms, GateIs}
 use Rattle.reading.specs.declared.way_in.Lent.{Lent}
 use Rattle.reading.specs.declared.way_in.Gate.the-variants.{Open, Shut}
 
--- `first_high`
+-- `find_high`
 pub record Looking (s : List ℕ) (i : ℕ) : Type 0 where
   pub within : i ≤ length s
   pub rest : firstHigh 0 s ≡ firstHigh i (drop i s)
@@ -40,6 +40,30 @@ module _ {s : List ℕ} {i : ℕ} (w : Looking s i) where
     look-more g = record { within = omega arith; rest = w .rest ∙ rw (drop-cons s i 0 h, lt-leb 128 (getD s i 0) g, add-one) }
 
 pub ruleset looking = (needs, look-start, look-end, look-found, look-more)
+
+-- `highest`
+pub record Below (s : List ℕ) (h i : ℕ) : Type 0 where
+  pub within : i ≤ length s
+  pub rest : h < 128 → Looking s i
+
+pub below-start : (s : List ℕ) (h : ℕ) → Below s h 0
+below-start s h = record { within = omega arith; rest = λ _. look-start s }
+
+module _ {s : List ℕ} {h i : ℕ} (w : Below s h i) where
+  pub below-end : length s ≤ i → Caps h s
+  unfolding firstHigh
+  below-end j = record { no-high = λ k. w .rest k .rest ∙ rw (drop-of-length-le s j) }
+
+  pub below-more : i < length s → {g : ℕ} → (h ≤ g) × (getD s i 0 ≤ g) → Below s g (i + 1)
+  below-more j b = record { within = omega arith; rest = λ k. look-more (w .rest (omega (arith, b .0))) j (omega (arith, b .1)) }
+
+pub ruleset below = (needs, below-start, below-end, below-more)
+
+-- `first_high`: where the highest byte is below 128, there is no first high one
+pub high-none : {s : List ℕ} {h : ℕ} → Caps h s → h < 128 → firstHigh 0 s ≡ highOf (length s) (length s)
+high-none {s} w k = w .no-high k ∙ rw (le-ltb (length s) (length s) (omega arith))
+
+pub ruleset highs = (needs, high-none)
 
 -- `has_room`
 module _ (b : Lent) where

@@ -4,7 +4,7 @@ use Prim.Native.Nat.{ℕ, _*_, _≤_}
 use mathlib.Core.Path.{_≡_}
 use mathlib.Core.Bool.{Bool}
 use mathlib.Core.List.{List, []}
-use lib.ListN.{length, take}
+use lib.ListN.{length, take, replicate}
 use lib.Seq.{sets}
 use lib.Dec.{eqb, ltb}
 use Rattle.format.specs.Lists.{pick, over, flat}
@@ -49,6 +49,19 @@ goingAt d n on s =
 
 abbrev pub startingOf : Found → (total : ℕ) → Going
 startingOf d z = pick (ltb 65536 z) (goingAt d 0 (d .more) (Kept 9 0)) (goingAt d z (d .more) (Made 0))
+
+-- what it begins with: the text and the tables within their bounds, and the kept areas' sizes
+pub record Begun (text xs : List ℕ) (d : Found) (s : Sizes) : Type 0 where
+  pub inside : d .next ≤ length text
+  pub short : length text ≤ 65536
+  pub areas-low : d .areas ≤ 64
+  pub symbols-low : d .symbols ≤ 1024
+  pub sizes : SizesAre xs (d .areas) s
+
+-- an image before its first pair: zeros at the first n positions
+pub record Blank (n : ℕ) (vs : List ℕ) : Type 0 where
+  pub zeros : take n vs ≡ replicate n 0
+  pub long : n ≤ length vs
 
 -- its pairs, if the reading goes on to it
 abbrev pub pairsFrom : Bool → Form → List ℕ → (next : ℕ) → (more : Bool) → List (Taken the.Pair)

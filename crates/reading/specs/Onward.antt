@@ -137,6 +137,13 @@ pub record Ready (text areas : List ℕ) (g : Going) : Type 0 where
   pub symbols-low : g .symbols ≤ 1024
   pub sound : Sound areas (g .areas) (g .standing)
 
+-- what is lent to a turn for a pair's bytes and the columns of its fragments
+pub record Columns (b ms es xs : List ℕ) : Type 0 where
+  pub of-bytes : length b ≡ 256
+  pub of-modes : length ms ≡ 64
+  pub of-entries : length es ≡ 64
+  pub of-indexes : length xs ≡ 64
+
 -- what placing a pair asks
 pub record PlaceReady (l : Line) (g : Going) (table bytes areas rows : List ℕ) : Type 0 where
   pub classes : table ≡ classTable

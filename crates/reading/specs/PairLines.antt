@@ -63,6 +63,13 @@ PairSays m NoPair b ms es xs b′ ms′ es′ xs′ = caseOf m ≡ none
 pub record PairIs (m : Got the.Pair) (r : PairLine) (b ms es xs b′ ms′ es′ xs′ : List ℕ) : Type 0 where
   pub says : PairSays m r b ms es xs b′ ms′ es′ xs′
 
+-- what was lent is as long as before
+pub record AsLong (b ms es xs b′ ms′ es′ xs′ : List ℕ) : Type 0 where
+  pub bytes : length b′ ≡ length b
+  pub modes : length ms′ ≡ length ms
+  pub entries : length es′ ≡ length es
+  pub indexes : length xs′ ≡ length xs
+
 -- what a pair used, from a place on, stands before n
 abbrev pub UsedBounds : ℕ → ℕ → PairLine → Type 0
 UsedBounds n p (Pair body u) = p + u ≤ n

@@ -1,6 +1,6 @@
 -- The way in: refusals 1 to 3.
 -- Assumes nothing.
-use Prim.Native.Nat.{ℕ, _≤_}
+use Prim.Native.Nat.{ℕ, _≤_, _<_}
 use mathlib.Core.Path.{_≡_}
 use mathlib.Core.Bool.{Bool}
 use mathlib.Core.List.{List}
@@ -17,6 +17,10 @@ use Rattle.reading.specs.declared.way_in.Gate.the-variants.{Open, Shut}
 -- the first byte above 127, found at r of n bytes
 abbrev pub highOf : ℕ → ℕ → Option ℕ
 highOf n r = pick (ltb r n) (some r) none
+
+-- where r is below 128, so is every byte
+pub record Caps (r : ℕ) (text : List ℕ) : Type 0 where
+  pub no-high : r < 128 → the.firstHigh 0 text ≡ none
 
 abbrev pub lentOf : Lent → the.Lent
 lentOf b = record { areas = b .areas; symbols = b .symbols; values = b .values; masks = b .masks; fixups = b .fixups }

@@ -1,135 +1,18 @@
-// Group two: its pairs read, counted and placed, from a place on; refusals 10 to 13.
+// Group two: its pairs read, counted and placed, turn after turn, from a place on.
 ghost use mathlib.Core.Path.{_≡_};
 ghost use Prim.Native.Nat.{_≤_};
 ghost use lib.ListN.{length};
 ghost use Rattle.mode.specs.Class.{classTable};
 ghost use Rattle.text.specs.Told.{formOf};
-ghost use Rattle.reading.specs.Onward.{standingOf, filledOf, Ready, PlaceReady, Advances, TurnIs, twoOf, GroupedTwo, onwardAt};
-use crate::pair::pair_step;
+ghost use Rattle.reading.specs.Onward.{Ready, Columns, twoOf, GroupedTwo, onwardAt};
 use crate::plan::Going;
-use crate::plan::Plan;
-use crate::plan::Standing;
 use crate::plan::Turn;
 use crate::plan::Two;
-use crate::plan::after;
 use crate::plan::ending;
-use crate::plan::plan_of;
-use crate::plan::standing_in;
-use crate::plan::turn_of;
-use place::Filled;
-use place::Line;
-use place::Placed;
+use crate::turn::take_turn;
 use text::Form;
 
-// How placing stands after a pair.
-fn standing_of(r: Placed) -> Standing
-    ensures { λ s. ⌜ s ≡ standingOf r ⌝ }
-{
-    match r {
-        Placed::Done(k) => Standing::Made { fixups: k },
-        Placed::Stopped(n, p) => Standing::Kept {
-            number: n,
-            place: p,
-        },
-        Placed::Misfit => Standing::Kept {
-            number: 0,
-            place: 0,
-        },
-    }
-}
-
-// How many rows there are.
-fn filled_of(g: Going, fixups: usize) -> Filled
-    ensures { λ r. ⌜ r ≡ filledOf g fixups ⌝ }
-{
-    Filled {
-        areas: g.areas,
-        symbols: g.symbols,
-        fixups: fixups,
-    }
-}
-
-// A pair placed, if no refusal is kept.
-fn place_body(
-    line: Line,
-    going: Going,
-    table: &[u8; 2048],
-    bytes: &[u8; 256],
-    ms: &[u32; 64],
-    es: &[u32; 64],
-    xs: &[u32; 64],
-    areas: &[u32],
-    symbols: &[u32],
-    values: &mut [u8],
-    masks: &mut [u8],
-    rows: &mut [u32],
-) -> Turn
-    requires { ⌜ PlaceReady line going (now table) (now bytes) (now areas) (now rows) ⌝ }
-    ensures { λ r. ⌜ Advances line going (now (bytes .entry)) (now (ms .entry)) (now (es .entry)) (now (xs .entry)) (now (areas .entry)) (now (symbols .entry)) (now (values .entry)) (now (masks .entry)) (now (rows .entry)) r (now (values .exit)) (now (masks .exit)) (now (rows .exit)) ⌝ }
-{
-    let s = going.standing;
-    let Standing::Made { fixups } = s else {
-        return after(standing_in(going, s));
-    };
-    let filled = filled_of(going, fixups);
-    let r = place::place_pair(
-        table,
-        line,
-        bytes,
-        ms,
-        es,
-        xs,
-        areas,
-        symbols,
-        filled,
-        values,
-        masks,
-        rows,
-    );
-    after(standing_in(going, standing_of(r)))
-}
-
-// One turn: the pair at the place where group two is.
-fn take_turn(
-    t: &[u8],
-    g: Going,
-    form: Form,
-    ended: bool,
-    table: &[u8; 2048],
-    areas: &[u32],
-    symbols: &[u32],
-    values: &mut [u8],
-    masks: &mut [u8],
-    rows: &mut [u32],
-) -> Turn
-    requires { ⌜ (Ready (now t) (now areas) g) × (length (now t) ≤ 65536) × (now table ≡ classTable) × (9216 ≤ length (now rows)) ⌝ }
-    ensures { λ r. ⌜ TurnIs ended (formOf form) (now (t .entry)) (now (areas .entry)) (now (symbols .entry)) (g .next) (onwardAt ended (formOf form) (now (t .entry)) (now (areas .entry)) (now (symbols .entry)) g (now (values .entry)) (now (masks .entry)) (now (rows .entry))) r (now (values .exit)) (now (masks .exit)) (now (rows .exit)) ⌝ }
-{
-    let mut bs = [0u8; 256];
-    let mut ms = [0u32; 64];
-    let mut es = [0u32; 64];
-    let mut xs = [0u32; 64];
-    let step = pair_step(t, g.next, form, ended, &mut bs, &mut ms, &mut es, &mut xs);
-    let plan = plan_of(step, g, form);
-    let Plan::Place { line, going } = plan else {
-        return turn_of(plan);
-    };
-    place_body(
-        line,
-        going,
-        table,
-        &bs,
-        &ms,
-        &es,
-        &xs,
-        areas,
-        symbols,
-        values,
-        masks,
-        rows,
-    )
-}
-
+// The answer of the last turn.
 fn two_of(u: Turn) -> Two
     ensures { λ r. ⌜ r ≡ twoOf u ⌝ }
 {
@@ -139,7 +22,37 @@ fn two_of(u: Turn) -> Two
     }
 }
 
-// Group two from a place on.
+// Turn after turn from a place on. The rows of areas and symbols are a and s, the images vs and fs.
+fn rounds(
+    t: &[u8],
+    start: Going,
+    form: Form,
+    ended: bool,
+    table: &[u8; 2048],
+    a: &[u32],
+    s: &[u32],
+    bs: &mut [u8; 256],
+    ms: &mut [u32; 64],
+    es: &mut [u32; 64],
+    xs: &mut [u32; 64],
+    vs: &mut [u8],
+    fs: &mut [u8],
+    rows: &mut [u32],
+) -> Two
+    requires { ⌜ (Ready (now t) (now a) start) × (length (now t) ≤ 65536) × (now table ≡ classTable) × (9216 ≤ length (now rows)) × (Columns (now bs) (now ms) (now es) (now xs)) ⌝ }
+    ensures { λ r. ⌜ GroupedTwo (onwardAt ended (formOf form) (now (t .entry)) (now (a .entry)) (now (s .entry)) start (now (vs .entry)) (now (fs .entry)) (now (rows .entry))) r (now (vs .exit)) (now (fs .exit)) (now (rows .exit)) ⌝ }
+{
+    let mut g = start;
+    loop {
+        let u = take_turn(t, g, form, ended, table, a, s, bs, ms, es, xs, vs, fs, rows);
+        let Turn::Goes { going } = u else {
+            return two_of(u);
+        };
+        g = going;
+    }
+}
+
+// Group two from a place on. The arrays for a pair's bytes and fragments are made once for all pairs.
 pub(crate) fn group_two(
     t: &[u8],
     start: Going,
@@ -155,23 +68,24 @@ pub(crate) fn group_two(
     requires { ⌜ (Ready (now t) (now areas) start) × (length (now t) ≤ 65536) × (now table ≡ classTable) × (9216 ≤ length (now rows)) ⌝ }
     ensures { λ r. ⌜ GroupedTwo (onwardAt ended (formOf form) (now (t .entry)) (now (areas .entry)) (now (symbols .entry)) start (now (values .entry)) (now (masks .entry)) (now (rows .entry))) r (now (values .exit)) (now (masks .exit)) (now (rows .exit)) ⌝ }
 {
-    let mut g = start;
-    loop {
-        let u = take_turn(
-            t,
-            g,
-            form,
-            ended,
-            table,
-            areas,
-            symbols,
-            values,
-            masks,
-            rows,
-        );
-        let Turn::Goes { going } = u else {
-            return two_of(u);
-        };
-        g = going;
-    }
+    let mut bs = [0u8; 256];
+    let mut ms = [0u32; 64];
+    let mut es = [0u32; 64];
+    let mut xs = [0u32; 64];
+    rounds(
+        t,
+        start,
+        form,
+        ended,
+        table,
+        areas,
+        symbols,
+        &mut bs,
+        &mut ms,
+        &mut es,
+        &mut xs,
+        values,
+        masks,
+        rows,
+    )
 }

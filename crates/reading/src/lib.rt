@@ -3,9 +3,11 @@ ghost use mathlib.Core.Bool.{false, true};
 ghost use Rattle.format.specs.Held.{Meets};
 ghost use Rattle.reading.specs.Answer.{held, told};
 
+mod answers;
 mod both;
 mod group_one;
 mod group_two;
+mod images;
 mod lines;
 mod pair;
 mod plan;
@@ -13,6 +15,7 @@ mod rows_in;
 mod rows_out;
 mod second;
 mod sizes;
+mod turn;
 mod way_in;
 mod whole;
 

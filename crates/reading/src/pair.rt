@@ -6,7 +6,7 @@ ghost use lib.ListN.{length, getD};
 ghost use lib.Dec.{eqb, leb};
 ghost use Rattle.format.specs.Pairs.{skippedOf, pairOf};
 ghost use Rattle.text.specs.Told.{formOf};
-ghost use Rattle.reading.specs.PairLines.{lineOf, caseOf, PairIs, PairStepIs, UsedIn, stepFrom};
+ghost use Rattle.reading.specs.PairLines.{lineOf, caseOf, AsLong, PairIs, PairStepIs, UsedIn, stepFrom};
 use text::LineAt;
 ghost use Rattle.reading.specs.declared.pair.Body.the-variants.{Placed};
 ghost use Rattle.reading.specs.declared.pair.PairLine.the-variants.{Pair};
@@ -100,6 +100,7 @@ fn read_pair(
 ) -> PairLine
     requires { ⌜ width + length (now b) ≤ 65536 ⌝ }
     ensures { λ r. ⌜ PairIs (pairOf (formOf form) width (now (a .entry)) (now (b .entry))) r (now (bytes .entry)) (now (ms .entry)) (now (es .entry)) (now (xs .entry)) (now (bytes .exit)) (now (ms .exit)) (now (es .exit)) (now (xs .exit)) ⌝ }
+    ensures { λ r. ⌜ AsLong (now (bytes .entry)) (now (ms .entry)) (now (es .entry)) (now (xs .entry)) (now (bytes .exit)) (now (ms .exit)) (now (es .exit)) (now (xs .exit)) ⌝ }
 {
     let c = line::whole_content(a, form, bytes);
     let ContentLine::Content {
@@ -162,6 +163,7 @@ pub(crate) fn pair_step(
 ) -> PairStep
     requires { ⌜ (p ≤ length (now t)) × (length (now t) ≤ 65536) ⌝ }
     ensures { λ r. ⌜ PairStepIs ended (formOf form) (now (t .entry)) p r (now (bytes .entry)) (now (ms .entry)) (now (es .entry)) (now (xs .entry)) (now (bytes .exit)) (now (ms .exit)) (now (es .exit)) (now (xs .exit)) ⌝ }
+    ensures { λ r. ⌜ AsLong (now (bytes .entry)) (now (ms .entry)) (now (es .entry)) (now (xs .entry)) (now (bytes .exit)) (now (ms .exit)) (now (es .exit)) (now (xs .exit)) ⌝ }
 {
     let l = line_at(t, p);
     let q = l.end;

@@ -21,7 +21,7 @@ fn copy_symbols(dst: &mut [u32], src: &[u32; 5120], n: usize)
     cells::copy_u32s(dst, 0, src, n)
 }
 
-fn copy_image(dst: &mut [u8], src: &[u8; 65536], n: usize)
+fn copy_image(dst: &mut [u8], src: &[u8], n: usize)
     ensures { λ _. ⌜ now (dst .exit) ≡ sets (now (dst .entry)) 0 (take n (now (src .entry))) ⌝ }
 {
     cells::copy_bytes(dst, 0, src, n)
@@ -53,8 +53,8 @@ pub(crate) fn lay_tables(
 // The images, and the rows of fixups.
 pub(crate) fn lay_images(
     counts: Counts,
-    vs: &[u8; 65536],
-    ms: &[u8; 65536],
+    vs: &[u8],
+    ms: &[u8],
     rows: &[u32; 9216],
     values: &mut [u8],
     masks: &mut [u8],

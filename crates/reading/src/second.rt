@@ -78,7 +78,7 @@ fn second(
     )
 }
 
-// The same over arrays.
+// The same with the tables and rows in arrays.
 pub(crate) fn second_over(
     t: &[u8],
     g: Going,
@@ -86,8 +86,8 @@ pub(crate) fn second_over(
     ended: bool,
     areas: &[u32; 384],
     symbols: &[u32; 5120],
-    values: &mut [u8; 65536],
-    masks: &mut [u8; 65536],
+    values: &mut [u8],
+    masks: &mut [u8],
     rows: &mut [u32; 9216],
 ) -> Two
     requires { ⌜ (Ready (now t) (now areas) g) × (length (now t) ≤ 65536) × (9216 ≤ length (now rows)) × (g .positions ≤ length (now values)) × (g .positions ≤ length (now masks)) ⌝ }

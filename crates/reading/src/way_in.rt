@@ -1,8 +1,9 @@
 // The way in: refusals 1 to 3.
 ghost use mathlib.Core.Path.{_≡_};
+ghost use Prim.Native.Nat.{_≤_};
 ghost use lib.ListN.{length};
 ghost use Rattle.format.specs.Reading.{firstHigh};
-ghost use Rattle.reading.specs.WayIn.{highOf, roomy, GateIs};
+ghost use Rattle.reading.specs.WayIn.{highOf, Caps, roomy, GateIs};
 
 // How long the lent buffers are.
 pub(crate) struct Lent {
@@ -18,8 +19,28 @@ pub(crate) enum Gate {
     Shut { number: u32, at: usize },
 }
 
-// The place of the first byte above 127, or the text's end.
-fn first_high(t: &[u8]) -> usize
+// The greater of two bytes.
+fn greater(a: u8, b: u8) -> u8
+    ensures { λ r. ⌜ (a ≤ r) × (b ≤ r) ⌝ }
+{
+    if a < b { b } else { a }
+}
+
+// The highest byte of a text, 0 if it has none: a loop without an exit on the way, so that many bytes are compared at once.
+fn highest(t: &[u8]) -> u8
+    ensures { λ r. ⌜ Caps r (now (t .entry)) ⌝ }
+{
+    let mut h = 0;
+    let mut i = 0;
+    while i < t.len() {
+        h = greater(h, t[i]);
+        i += 1;
+    }
+    h
+}
+
+// The place of the first byte above 127, or the text's end, byte by byte.
+fn find_high(t: &[u8]) -> usize
     ensures { λ r. ⌜ firstHigh 0 (now (t .entry)) ≡ highOf (length (now (t .entry))) r ⌝ }
 {
     let mut i = 0;
@@ -30,6 +51,16 @@ fn first_high(t: &[u8]) -> usize
         i += 1;
     }
     i
+}
+
+// The same, without the search where no byte is above 127.
+fn first_high(t: &[u8]) -> usize
+    ensures { λ r. ⌜ firstHigh 0 (now (t .entry)) ≡ highOf (length (now (t .entry))) r ⌝ }
+{
+    if highest(t) < 128 {
+        return t.len();
+    }
+    find_high(t)
 }
 
 // Whether each lent buffer has room for its bound.

@@ -7,7 +7,7 @@ ghost use Rattle.reading.specs.WayIn.{Rooms};
 ghost use Rattle.reading.specs.Laid.{Laid, wholeText, HeaderOnly};
 use crate::Answer;
 use crate::Counts;
-use crate::both::accept;
+use crate::answers::accept;
 use crate::both::read_lines;
 use crate::lines::record_end;
 use crate::way_in::Gate;

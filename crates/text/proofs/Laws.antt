@@ -4,8 +4,10 @@ pub mod Tests
 pub mod Kinds
 pub mod Words
 pub mod Numbers
+pub mod Short
 pub mod Many
 pub mod Lists
 pub mod Joined
+pub mod Joins
 pub mod Lines
 pub mod Header

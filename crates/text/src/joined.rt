@@ -9,20 +9,11 @@ use crate::Num;
 use crate::Width;
 use crate::numbers::next_byte;
 use crate::numbers::parse_byte;
-
-// How many bytes an address has behind its first.
-fn more_bytes(w: Width) -> usize
-    ensures { λ r. ⌜ (r ≡ moreOf w) × (r ≤ 3) ⌝ }
-{
-    match w {
-        Width::Two => 1,
-        Width::Three => 2,
-        Width::Four => 3,
-    }
-}
+use crate::short::short_three;
+use crate::short::short_two;
 
 // One byte joined behind a value; scale is its worth where the lowest is first.
-fn join_step(big: bool, v: u64, scale: u64, b: u64) -> u64
+pub(crate) fn join_step(big: bool, v: u64, scale: u64, b: u64) -> u64
     requires { ⌜ (v < scale) × (scale ≤ 16777216) × (b < 256) ⌝ }
     ensures { λ r. ⌜ (r ≡ joinStep big v scale b) × (r < scale * 256) ⌝ }
 {
@@ -58,16 +49,48 @@ fn joined_of(t: &[u8], at: usize, radix: u8, big: bool, n: usize) -> Num
     }
 }
 
+// Two bytes as one number. The common form is read at once.
+fn two_of(t: &[u8], at: usize, radix: u8, big: bool) -> Num
+    ensures { λ r. ⌜ told r ≡ joinedAt radix big 1 (now (t .entry)) at ⌝ }
+{
+    let v = short_two(t, at, radix, big);
+    if v < 65536 {
+        return Num::Is {
+            value: v as u32,
+            next: at + 5,
+        };
+    }
+    joined_of(t, at, radix, big, 1)
+}
+
+// Three bytes as one number. The common form is read at once.
+fn three_of(t: &[u8], at: usize, radix: u8, big: bool) -> Num
+    ensures { λ r. ⌜ told r ≡ joinedAt radix big 2 (now (t .entry)) at ⌝ }
+{
+    let v = short_three(t, at, radix, big);
+    if v < 16777216 {
+        return Num::Is {
+            value: v as u32,
+            next: at + 8,
+        };
+    }
+    joined_of(t, at, radix, big, 2)
+}
+
 // An address: as many bytes as the header says.
 pub fn parse_multi_number(t: &[u8], at: usize, radix: u8, big: bool, w: Width) -> Num
     ensures { λ r. ⌜ told r ≡ joinedAt radix big (moreOf w) (now (t .entry)) at ⌝ }
 {
-    joined_of(t, at, radix, big, more_bytes(w))
+    match w {
+        Width::Two => two_of(t, at, radix, big),
+        Width::Three => three_of(t, at, radix, big),
+        Width::Four => joined_of(t, at, radix, big, 3),
+    }
 }
 
 // An index: two bytes.
 pub fn parse_area_index(t: &[u8], at: usize, radix: u8, big: bool) -> Num
     ensures { λ r. ⌜ told r ≡ index radix big (now (t .entry)) at ⌝ }
 {
-    joined_of(t, at, radix, big, 1)
+    two_of(t, at, radix, big)
 }

@@ -1,11 +1,13 @@
 // The small readers of document 01's section 'Lines': kinds of bytes, words, numbers, byte lists, joined numbers, lines and the header.
 // A reader takes a text and a place, and answers the place behind what it read, or why and where it came to a halt. Past the end it reads nothing.
 mod header;
+mod hex;
 mod joined;
 mod kinds;
 mod lines;
 mod lists;
 mod numbers;
+mod short;
 mod words;
 
 pub use header::format_spec;

@@ -1,8 +1,9 @@
 // Line ends, and the line at a place.
 ghost use mathlib.Core.Path.{_≡_};
-ghost use lib.ListN.{drop};
+ghost use Prim.Native.Nat.{_+_, _≤_};
+ghost use lib.ListN.{drop, length};
 ghost use Rattle.format.specs.Lines.{endLength};
-ghost use Rattle.text.specs.Lines.{LineIs};
+ghost use Rattle.text.specs.Lines.{LineIs, High, Eight, OneLine};
 use crate::Kind;
 use crate::LineAt;
 use crate::kinds::byte_at;
@@ -27,11 +28,54 @@ pub fn line_ending(t: &[u8], at: usize) -> usize
     0
 }
 
+// Whether a byte is low enough to be CR or LF, or one before it was.
+fn low(b: u8, before: bool) -> bool
+    ensures { λ r. ⌜ High b before r ⌝ }
+{
+    if b <= 13 {
+        return true;
+    }
+    before
+}
+
+// Whether one of eight bytes is low enough to be CR or LF: no branch in it, so that the eight are compared at once.
+fn low_of_eight(t: &[u8], i: usize) -> bool
+    requires { ⌜ i + 8 ≤ length (now t) ⌝ }
+    ensures { λ r. ⌜ Eight (now (t .entry)) i r ⌝ }
+{
+    let a = low(t[i], false);
+    let b = low(t[i + 1], a);
+    let c = low(t[i + 2], b);
+    let d = low(t[i + 3], c);
+    let e = low(t[i + 4], d);
+    let f = low(t[i + 5], e);
+    let g = low(t[i + 6], f);
+    low(t[i + 7], g)
+}
+
+// A place in the same line, behind as many eights as have no low byte.
+fn past_eights(t: &[u8], at: usize) -> usize
+    ensures { λ r. ⌜ OneLine (now (t .entry)) at r ⌝ }
+{
+    if t.len() < at {
+        return at;
+    }
+    let mut i = at;
+    while 8 <= t.len() - i {
+        if low_of_eight(t, i) {
+            return i;
+        }
+        i += 8;
+    }
+    i
+}
+
 // The line at a place: its bytes end before the first CR or LF.
 pub fn line_at(t: &[u8], at: usize) -> LineAt
     ensures { λ r. ⌜ LineIs (now (t .entry)) at r ⌝ }
 {
-    let q = past_kind(t, at, Kind::InLine);
+    let m = past_eights(t, at);
+    let q = past_kind(t, m, Kind::InLine);
     let e = line_ending(t, q);
     LineAt {
         end: q,

@@ -4,7 +4,8 @@ ghost use lib.ListN.{set};
 ghost use Rattle.text.specs.Many.{BytesRead};
 use crate::Num;
 use crate::Run;
-use crate::numbers::next_byte;
+use crate::hex::spaced_byte;
+use crate::numbers::any_next;
 
 // A byte into its place of what was lent; past the end nothing is written.
 fn put_byte(out: &mut [u8], i: usize, b: u8)
@@ -23,7 +24,15 @@ pub fn parse_byte_many(t: &[u8], at: usize, radix: u8, out: &mut [u8; 256]) -> R
     let mut p = at;
     let mut k = t.len();
     while 0 < k {
-        let Num::Is { value, next } = next_byte(t, p, radix) else {
+        let v = spaced_byte(t, p, radix);
+        if v < 256 {
+            put_byte(out, n, v as u8);
+            n += 1;
+            p += 3;
+            k -= 1;
+            continue;
+        }
+        let Num::Is { value, next } = any_next(t, p, radix) else {
             return Run { count: n, end: p };
         };
         put_byte(out, n, value as u8);

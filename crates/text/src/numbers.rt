@@ -6,6 +6,8 @@ ghost use Rattle.format.specs.Number.{valued, number, byte, nextByte};
 ghost use Rattle.text.specs.Told.{told};
 use crate::Kind;
 use crate::Num;
+use crate::hex::short_byte;
+use crate::hex::spaced_byte;
 use crate::kinds::past_kind;
 
 // What a byte is worth as a digit: 0 to 15, or 255 where it is none.
@@ -80,8 +82,8 @@ pub fn parse_number(t: &[u8], at: usize, radix: u8) -> Num
     number_from(at, i, v)
 }
 
-// A number below 256.
-pub fn parse_byte(t: &[u8], at: usize, radix: u8) -> Num
+// A number below 256, of any length.
+fn any_byte(t: &[u8], at: usize, radix: u8) -> Num
     ensures { λ r. ⌜ told r ≡ byte radix (now (t .entry)) at ⌝ }
 {
     let n = parse_number(t, at, radix);
@@ -97,13 +99,41 @@ pub fn parse_byte(t: &[u8], at: usize, radix: u8) -> Num
     Num::No { reason: 3, at: at }
 }
 
-// One or more blanks, and a byte.
-pub fn next_byte(t: &[u8], at: usize, radix: u8) -> Num
+// A number below 256. Two digits are read at once.
+pub fn parse_byte(t: &[u8], at: usize, radix: u8) -> Num
+    ensures { λ r. ⌜ told r ≡ byte radix (now (t .entry)) at ⌝ }
+{
+    let v = short_byte(t, at, radix);
+    if v < 256 {
+        return Num::Is {
+            value: v as u32,
+            next: at + 2,
+        };
+    }
+    any_byte(t, at, radix)
+}
+
+// Any number of blanks, at least one, and a byte of any length.
+pub fn any_next(t: &[u8], at: usize, radix: u8) -> Num
     ensures { λ r. ⌜ told r ≡ nextByte radix (now (t .entry)) at ⌝ }
 {
     let a = past_kind(t, at, Kind::Blank);
     if a == at {
         return Num::No { reason: 4, at: at };
     }
-    parse_byte(t, a, radix)
+    any_byte(t, a, radix)
+}
+
+// One or more blanks, and a byte. One space and two digits are read at once.
+pub fn next_byte(t: &[u8], at: usize, radix: u8) -> Num
+    ensures { λ r. ⌜ told r ≡ nextByte radix (now (t .entry)) at ⌝ }
+{
+    let v = spaced_byte(t, at, radix);
+    if v < 256 {
+        return Num::Is {
+            value: v as u32,
+            next: at + 3,
+        };
+    }
+    any_next(t, at, radix)
 }

@@ -1,10 +1,6 @@
 use Rattle.exports.proofs.Laws.{numbers}
 use Rattle.exports.proofs.gatecobalt_read_ended.Statement.{statement}
 use Rattle.exports.proofs.gatecobalt_read_ended.Tie as tie
-use Rattle.exports.proofs.gatecobalt_read_ended.Reads as reads
-use Rattle.exports.proofs.gatecobalt_read_ended.Lts as lts
-use Rattle.exports.proofs.answers.read_numbers.Reads as read-numbers-reads
-use Rattle.reading.proofs.read_ended.Reads as read-ended-reads
 
 read-ended-requires : tie.Need-read-ended-requires
 read-ended-requires c κs = search numbers

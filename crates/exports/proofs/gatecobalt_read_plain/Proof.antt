@@ -1,10 +1,6 @@
 use Rattle.exports.proofs.Laws.{numbers}
 use Rattle.exports.proofs.gatecobalt_read_plain.Statement.{statement}
 use Rattle.exports.proofs.gatecobalt_read_plain.Tie as tie
-use Rattle.exports.proofs.gatecobalt_read_plain.Reads as reads
-use Rattle.exports.proofs.gatecobalt_read_plain.Lts as lts
-use Rattle.exports.proofs.answers.read_numbers.Reads as read-numbers-reads
-use Rattle.reading.proofs.read_plain.Reads as read-plain-reads
 
 read-plain-requires : tie.Need-read-plain-requires
 read-plain-requires c κs = search numbers

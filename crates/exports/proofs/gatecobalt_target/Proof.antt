@@ -1,10 +1,6 @@
 use Rattle.exports.proofs.Laws.{numbers}
 use Rattle.exports.proofs.gatecobalt_target.Statement.{statement}
 use Rattle.exports.proofs.gatecobalt_target.Tie as tie
-use Rattle.exports.proofs.gatecobalt_target.Reads as reads
-use Rattle.exports.proofs.gatecobalt_target.Lts as lts
-use Rattle.exports.proofs.answers.target_numbers.Reads as target-numbers-reads
-use Rattle.target.proofs.target.Reads as target-reads
 
 target-requires : tie.Need-target-requires
 target-requires c κs = search numbers

@@ -129,11 +129,6 @@ pub ruleset stepping = (needs, step-mul, step-add, step-big, step-little, step-l
 
 pub ruleset joining = (needs, byte-below, next-below, joined-none, joined-start, joined-end, joined-fits, scale-low, scale-fits, joined-stop, joined-more)
 
-pub joined-as : (radix : ℕ) (big : Bool) (n : ℕ) (s : List ℕ) (at : ℕ) {k : ℕ} {r : Got ℕ} → r ≡ joined radix big k s at → k ≡ n → r ≡ joined radix big n s at
-joined-as radix big n s at e f = e ∙ rw f
-
 pub index-is : (radix : ℕ) (big : Bool) (s : List ℕ) (at : ℕ) {r : Got ℕ} → r ≡ joined radix big 1 s at → r ≡ index radix big s at
 unfolding index
 index-is radix big s at e = e
-
-pub ruleset widths = (needs, joined-as, index-is)

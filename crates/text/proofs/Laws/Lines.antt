@@ -15,12 +15,14 @@ use mir.Val.{Fits}
 use mir.Syntax.{w64}
 use borrow.Author.Tests.{eq-eqb, ne-eqb}
 use Rattle.format.specs.Lists.{pick}
+use Rattle.format.specs.Bytes.{isCrOrLf}
 use Rattle.format.specs.Number.{past, behind}
 use Rattle.format.specs.Lines.{endLength}
 use Rattle.laws.specs.Places.{inner, lineEnd, endAt, nextLine}
 use Rattle.laws.proofs.Within.{past-within}
-use Rattle.text.specs.Lines.{LineIs}
+use Rattle.text.specs.Lines.{LineIs, High, OneLine, Eight}
 use Rattle.text.proofs.Laws.Tests.{by-order}
+use Rattle.text.proofs.Laws.Kinds.{Spans, span-start, span-more}
 
 -- `line_ending`
 end-of : (a : ℕ) (rest : List ℕ) → endLength (a ∷ rest) ≡ pick (eqb a 10) 1 (pick (eqb a 13) (pick (eqb (getD rest 0 0) 10) 2 0) 0)
@@ -63,6 +65,62 @@ module _ (s : List ℕ) (at : ℕ) where
 
 pub ruleset ending = (needs, end-none, end-lf, end-other, end-crlf, end-cr)
 
+-- `low`
+module _ (b : ℕ) (before : Bool) where
+  pub low-is : High b before true
+  low-is = record { high = λ e. absurd (not-both e); rest = λ e. absurd (not-both e) }
+    where
+      not-both : true ≡ false → ⊥
+      not-both e = let z : _≡_ {A = ℕ} 0 1 = cc in omega arith
+
+  pub low-not : 13 < b → High b before before
+  low-not h = record { high = λ e. h; rest = λ e. e }
+
+pub ruleset lows = (needs, low-is, low-not)
+
+-- `low_of_eight`
+high-inner : (b : ℕ) → 13 < b → true ≡ inner b
+unfolding isCrOrLf
+high-inner b h = rw (ne-eqb b 13 (λ e. omega arith), ne-eqb b 10 (λ e. omega arith))
+
+module _ (s : List ℕ) (p : ℕ) where
+  one-more : {i : ℕ} → Spans inner s p i → i < length s → 13 < getD s i 0 → {j : ℕ} → j ≡ i + 1 → Spans inner s p j
+  one-more {i} w h b e = rw e (span-more w (high-inner (getD s i 0) b) h refl)
+
+  pub eight-is : p + 8 ≤ length s → {a b c d e f g h : Bool}
+      → High (getD s p 0) false a → High (getD s (p + 1) 0) a b → High (getD s (p + 2) 0) b c → High (getD s (p + 3) 0) c d
+      → High (getD s (p + 4) 0) d e → High (getD s (p + 5) 0) e f → High (getD s (p + 6) 0) f g → High (getD s (p + 7) 0) g h → Eight s p h
+  eight-is l wa wb wc wd we wf wg wh = record {
+    on = λ zh.
+        let zg = wh .rest zh in
+        let zf = wg .rest zg in
+        let ze = wf .rest zf in
+        let zd = we .rest ze in
+        let zc = wd .rest zd in
+        let zb = wc .rest zc in
+        let za = wb .rest zb in
+        let s1 = one-more (span-start inner s p) (omega arith) (wa .high za) {j = p + 1} (omega arith) in
+        let s2 = one-more s1 (omega arith) (wb .high zb) {j = p + 2} (omega arith) in
+        let s3 = one-more s2 (omega arith) (wc .high zc) {j = p + 3} (omega arith) in
+        let s4 = one-more s3 (omega arith) (wd .high zd) {j = p + 4} (omega arith) in
+        let s5 = one-more s4 (omega arith) (we .high ze) {j = p + 5} (omega arith) in
+        let s6 = one-more s5 (omega arith) (wf .high zf) {j = p + 6} (omega arith) in
+        let s7 = one-more s6 (omega arith) (wg .high zg) {j = p + 7} (omega arith) in
+        let s8 = one-more s7 (omega arith) (wh .high zh) {j = p + 8} (omega arith) in
+        record { same = s8 .whole };
+  }
+
+pub ruleset eights = (needs, eight-is)
+
+-- `past_eights`
+pub line-start : (s : List ℕ) (p : ℕ) → OneLine s p p
+line-start s p = record { same = refl }
+
+pub line-on : {s : List ℕ} {p i : ℕ} {r : Bool} → OneLine s p i → Eight s i r → r ≡ false → OneLine s p (i + 8)
+line-on w e z = record { same = w .same ∙ e .on z .same }
+
+pub ruleset scanning = (needs, line-start, line-on)
+
 -- `line_at`
 end-within : (xs : List ℕ) → endLength xs ≤ length xs
 unfolding endLength
@@ -89,9 +147,9 @@ module _ (s : List ℕ) {q e : ℕ} (b : e ≡ endLength (drop q s)) where
       (λ h. record { fits = omega (arith, end-inside (le-of-lt h)) })
       (λ h. let z : e ≡ 0 = b ∙ sym (end-none s q h) in record { fits = omega arith })
 
-  pub line-is : {p : ℕ} → q ≡ past inner s p → LineIs s p (record { end = q; ends = e; next = q + e })
+  pub line-is : {p m : ℕ} → OneLine s p m → q ≡ past inner s m → LineIs s p (record { end = q; ends = e; next = q + e })
   unfolding lineEnd endAt nextLine past
-  line-is {p} a = record {
+  line-is {p} w f = let a : q ≡ past inner s p = f ∙ sym (w .same) in record {
     ends-at = a;
     line-end = b ∙ rw a;
     behind = rw (b, a);

@@ -12,9 +12,11 @@ use Rattle.format.specs.Got.{is, isnt, many}
 use Rattle.format.specs.Number.{nextByte}
 use Rattle.text.specs.Told.{told}
 use Rattle.text.specs.Many.{BytesRead}
+use Rattle.text.specs.Short.{Spaced}
 use Rattle.text.specs.declared.Num.{Num}
 use Rattle.text.specs.declared.Num.the-variants.{Is, No}
 use Rattle.text.proofs.Laws.Numbers.{next-below}
+use Rattle.text.proofs.Laws.Short.{spaced-fits}
 use Rattle.text.proofs.Laws.Many.{Counting, Column, count-start, column-start, count-end, count-stop, count-more, column-end, column-stop, column-more, put-past}
 
 pub byte-fits : (radix : ℕ) (s : List ℕ) (p : ℕ) {b : Num} {v q : ℕ} → b ≡ Is v q → told b ≡ nextByte radix s p → Fits w8 v
@@ -48,4 +50,12 @@ module _ (radix : ℕ) {s : List ℕ} {at n p k : ℕ} {b : Num} (e : told b ≡
   pub stored-more : {room left : List ℕ} → Column self (nextByte radix) s at room left n p k → {left' : List ℕ} → left' ≡ set left n v → Column self (nextByte radix) s at room left' (n + 1) q (k - 1)
   stored-more u a = column-more u h (next-is radix s p e g) a
 
-pub ruleset listing = (needs, put-past, byte-fits, count-start, column-start, bytes-end, bytes-stop, bytes-more, stored-more)
+-- the same for a byte that is read at once
+module _ (radix : ℕ) {s : List ℕ} {at n p k v : ℕ} (w : Spaced radix s p v) (l : v < 256) (h : 0 < k) where
+  pub spaced-more : Counting (nextByte radix) s at n p k → Counting (nextByte radix) s at (n + 1) (p + 3) (k - 1)
+  spaced-more c = count-more c h (w .got l)
+
+  pub spaced-stored : {room left : List ℕ} → Column self (nextByte radix) s at room left n p k → {left' : List ℕ} → left' ≡ set left n v → Column self (nextByte radix) s at room left' (n + 1) (p + 3) (k - 1)
+  spaced-stored u a = column-more u h (w .got l) a
+
+pub ruleset listing = (needs, put-past, byte-fits, spaced-fits, count-start, column-start, bytes-end, bytes-stop, bytes-more, stored-more, spaced-more, spaced-stored)

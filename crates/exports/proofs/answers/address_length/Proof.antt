@@ -1,8 +1,6 @@
 use Rattle.exports.proofs.Laws.{numbers}
 use Rattle.exports.proofs.answers.address_length.Statement.{statement}
 use Rattle.exports.proofs.answers.address_length.Tie as tie
-use Rattle.exports.proofs.answers.address_length.Reads as reads
-use Rattle.exports.proofs.answers.address_length.Lts as lts
 
 enum-told : tie.Need-enum-told
 enum-told c = search numbers

@@ -1,11 +1,6 @@
 use Rattle.exports.proofs.Laws.{numbers}
 use Rattle.exports.proofs.answers.header_numbers.Statement.{statement}
 use Rattle.exports.proofs.answers.header_numbers.Tie as tie
-use Rattle.exports.proofs.answers.header_numbers.Reads as reads
-use Rattle.exports.proofs.answers.header_numbers.Lts as lts
-use Rattle.exports.proofs.answers.address_length.Reads as address-length-reads
-use Rattle.exports.proofs.answers.flag_of.Reads as flag-of-reads
-use Rattle.exports.proofs.answers.wide.Reads as wide-reads
 
 enum-known-head : tie.Need-enum-known-head
 enum-known-head c = search numbers

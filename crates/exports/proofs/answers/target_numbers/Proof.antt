@@ -1,8 +1,6 @@
 use Rattle.exports.proofs.Laws.{numbers}
 use Rattle.exports.proofs.answers.target_numbers.Statement.{statement}
 use Rattle.exports.proofs.answers.target_numbers.Tie as tie
-use Rattle.exports.proofs.answers.target_numbers.Reads as reads
-use Rattle.exports.proofs.answers.target_numbers.Lts as lts
 
 enum-known-answer : tie.Need-enum-known-answer
 enum-known-answer c = search numbers

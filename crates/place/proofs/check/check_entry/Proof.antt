@@ -3,10 +3,6 @@ use Rattle.place.proofs.CheckLaws.{Counting}
 use Prim.Native.Nat.{_-_}
 use Rattle.place.proofs.check.check_entry.Statement.{statement}
 use Rattle.place.proofs.check.check_entry.Tie as tie
-use Rattle.place.proofs.check.check_entry.Reads as reads
-use Rattle.place.proofs.check.check_entry.Lts as lts
-use Rattle.place.proofs.check.count_to.Reads as count-to-reads
-use Rattle.place.proofs.references.refers_at.Reads as refers-at-reads
 
 abbrev Inv-loop : tie.InvT-loop
 Inv-loop table site ms es xs areas symbols e k j₀ i₀ j i = Counting ms es xs areas symbols site e k j i

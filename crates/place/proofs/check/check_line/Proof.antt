@@ -3,10 +3,6 @@ use Rattle.place.proofs.CheckLaws.{Checking}
 use Prim.Native.Nat.{_-_}
 use Rattle.place.proofs.check.check_line.Statement.{statement}
 use Rattle.place.proofs.check.check_line.Tie as tie
-use Rattle.place.proofs.check.check_line.Reads as reads
-use Rattle.place.proofs.check.check_line.Lts as lts
-use Rattle.place.proofs.check.check_entry.Reads as check-entry-reads
-use Rattle.place.proofs.check.grows.Reads as grows-reads
 
 abbrev Inv-loop : tie.InvT-loop
 Inv-loop table site ms es xs areas symbols wk n k₀ e₀ p₀ k e p = Checking ms es xs areas symbols site wk n k e p

@@ -1,9 +1,6 @@
 use Rattle.place.proofs.CheckLaws.{counting}
 use Rattle.place.proofs.check.count_to.Statement.{statement}
 use Rattle.place.proofs.check.count_to.Tie as tie
-use Rattle.place.proofs.check.count_to.Reads as reads
-use Rattle.place.proofs.check.count_to.Lts as lts
-use Rattle.place.proofs.check.one_more.Reads as one-more-reads
 
 enum-told : tie.Need-enum-told
 enum-told c = search counting

@@ -1,10 +1,6 @@
 use Rattle.place.proofs.CheckLaws.{growing}
 use Rattle.place.proofs.check.grows.Statement.{statement}
 use Rattle.place.proofs.check.grows.Tie as tie
-use Rattle.place.proofs.check.grows.Reads as reads
-use Rattle.place.proofs.check.grows.Lts as lts
-use Rattle.cells.proofs.byte_at.Reads as byte-at-reads
-use Rattle.cells.proofs.wide.Reads as wide-reads
 
 wide-requires : tie.Need-wide-requires
 wide-requires c κs = search growing

@@ -1,8 +1,6 @@
 use Rattle.place.proofs.CheckLaws.{counting}
 use Rattle.place.proofs.check.one_more.Statement.{statement}
 use Rattle.place.proofs.check.one_more.Tie as tie
-use Rattle.place.proofs.check.one_more.Reads as reads
-use Rattle.place.proofs.check.one_more.Lts as lts
 
 returns : tie.Need-returns
 returns c = search counting

@@ -3,9 +3,6 @@ use Rattle.place.proofs.GroupLaws.{Grouping}
 use Prim.Native.Nat.{_-_}
 use Rattle.place.proofs.group.area_rows.Statement.{statement}
 use Rattle.place.proofs.group.area_rows.Tie as tie
-use Rattle.place.proofs.group.area_rows.Reads as reads
-use Rattle.place.proofs.group.area_rows.Lts as lts
-use Rattle.place.proofs.group.row_to.Reads as row-to-reads
 
 abbrev Inv-loop : tie.InvT-loop
 Inv-loop rows k id out₀ p q₀ i₀ out q i = Grouping rows k id p out₀ out q i

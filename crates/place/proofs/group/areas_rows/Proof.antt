@@ -3,9 +3,6 @@ use Rattle.place.proofs.GroupLaws.{Ordering}
 use Prim.Native.Nat.{_-_}
 use Rattle.place.proofs.group.areas_rows.Statement.{statement}
 use Rattle.place.proofs.group.areas_rows.Tie as tie
-use Rattle.place.proofs.group.areas_rows.Reads as reads
-use Rattle.place.proofs.group.areas_rows.Lts as lts
-use Rattle.place.proofs.group.area_rows.Reads as area-rows-reads
 
 abbrev Inv-loop : tie.InvT-loop
 Inv-loop rows k n out₀ p₀ id₀ out p id = Ordering rows k n out₀ out p id

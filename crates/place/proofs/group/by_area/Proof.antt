@@ -1,9 +1,6 @@
 use Rattle.place.proofs.GroupLaws.{groups}
 use Rattle.place.proofs.group.by_area.Statement.{statement}
 use Rattle.place.proofs.group.by_area.Tie as tie
-use Rattle.place.proofs.group.by_area.Reads as reads
-use Rattle.place.proofs.group.by_area.Lts as lts
-use Rattle.place.proofs.group.areas_rows.Reads as areas-rows-reads
 
 returns : tie.Need-returns
 returns c = search groups

@@ -1,10 +1,6 @@
 use Rattle.place.proofs.GroupLaws.{row}
 use Rattle.place.proofs.group.row_to.Statement.{statement}
 use Rattle.place.proofs.group.row_to.Tie as tie
-use Rattle.place.proofs.group.row_to.Reads as reads
-use Rattle.place.proofs.group.row_to.Lts as lts
-use Rattle.cells.proofs.at.Reads as at-reads
-use Rattle.cells.proofs.copy_u32s.Reads as copy-u32s-reads
 
 mul-s : tie.Need-mul-s
 mul-s c = search row

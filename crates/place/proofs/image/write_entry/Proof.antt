@@ -1,11 +1,6 @@
 use Rattle.place.proofs.ImageLaws.{writing}
 use Rattle.place.proofs.image.write_entry.Statement.{statement}
 use Rattle.place.proofs.image.write_entry.Tie as tie
-use Rattle.place.proofs.image.write_entry.Reads as reads
-use Rattle.place.proofs.image.write_entry.Lts as lts
-use Rattle.cells.proofs.byte_at.Reads as byte-at-reads
-use Rattle.cells.proofs.put.Reads as put-reads
-use Rattle.cells.proofs.wide.Reads as wide-reads
 
 wide-requires : tie.Need-wide-requires
 wide-requires c κs = search writing

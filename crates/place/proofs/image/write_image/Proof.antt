@@ -3,9 +3,6 @@ use Rattle.place.proofs.ImageLaws.{Imaging}
 use Prim.Native.Nat.{_-_}
 use Rattle.place.proofs.image.write_image.Statement.{statement}
 use Rattle.place.proofs.image.write_image.Tie as tie
-use Rattle.place.proofs.image.write_image.Reads as reads
-use Rattle.place.proofs.image.write_image.Lts as lts
-use Rattle.place.proofs.image.write_entry.Reads as write-entry-reads
 
 abbrev Inv-loop : tie.InvT-loop
 Inv-loop site wv wm wk values₀ masks₀ n e₀ p₀ values masks e p = Imaging site wv wm wk values₀ masks₀ n values masks e p

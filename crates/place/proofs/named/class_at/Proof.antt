@@ -1,10 +1,6 @@
 use Rattle.place.proofs.NamedLaws.{classing}
 use Rattle.place.proofs.named.class_at.Statement.{statement}
 use Rattle.place.proofs.named.class_at.Tie as tie
-use Rattle.place.proofs.named.class_at.Reads as reads
-use Rattle.place.proofs.named.class_at.Lts as lts
-use Rattle.cells.proofs.at.Reads as at-reads
-use Rattle.mode.proofs.class_in.Reads as class-in-reads
 
 at-requires : tie.Need-at-requires
 at-requires c κs = search classing

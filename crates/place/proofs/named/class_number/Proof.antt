@@ -1,8 +1,6 @@
 use Rattle.place.proofs.NamedLaws.{numbering}
 use Rattle.place.proofs.named.class_number.Statement.{statement}
 use Rattle.place.proofs.named.class_number.Tie as tie
-use Rattle.place.proofs.named.class_number.Reads as reads
-use Rattle.place.proofs.named.class_number.Lts as lts
 
 returns : tie.Need-returns
 returns c = search numbering

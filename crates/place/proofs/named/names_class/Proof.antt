@@ -1,10 +1,6 @@
 use Rattle.place.proofs.NamedLaws.{naming}
 use Rattle.place.proofs.named.names_class.Statement.{statement}
 use Rattle.place.proofs.named.names_class.Tie as tie
-use Rattle.place.proofs.named.names_class.Reads as reads
-use Rattle.place.proofs.named.names_class.Lts as lts
-use Rattle.cells.proofs.byte_at.Reads as byte-at-reads
-use Rattle.place.proofs.named.class_number.Reads as class-number-reads
 
 cast-i : tie.Need-cast-i
 cast-i c = search naming

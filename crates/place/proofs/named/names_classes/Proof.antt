@@ -3,10 +3,6 @@ use Rattle.place.proofs.NamedLaws.{Naming}
 use Prim.Native.Nat.{_-_}
 use Rattle.place.proofs.named.names_classes.Statement.{statement}
 use Rattle.place.proofs.named.names_classes.Tie as tie
-use Rattle.place.proofs.named.names_classes.Reads as reads
-use Rattle.place.proofs.named.names_classes.Lts as lts
-use Rattle.cells.proofs.at.Reads as at-reads
-use Rattle.place.proofs.named.names_class.Reads as names-class-reads
 
 abbrev Inv-loop : tie.InvT-loop
 Inv-loop table ms n i₀ i = Naming table ms n i

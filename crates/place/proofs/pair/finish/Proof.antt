@@ -1,8 +1,6 @@
 use Rattle.place.proofs.PairLaws.{ending}
 use Rattle.place.proofs.pair.finish.Statement.{statement}
 use Rattle.place.proofs.pair.finish.Tie as tie
-use Rattle.place.proofs.pair.finish.Reads as reads
-use Rattle.place.proofs.pair.finish.Lts as lts
 
 enum-known-r : tie.Need-enum-known-r
 enum-known-r c = search ending

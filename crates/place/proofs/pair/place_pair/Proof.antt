@@ -1,12 +1,6 @@
 use Rattle.place.proofs.PairLaws.{placing}
 use Rattle.place.proofs.pair.place_pair.Statement.{statement}
 use Rattle.place.proofs.pair.place_pair.Tie as tie
-use Rattle.place.proofs.pair.place_pair.Reads as reads
-use Rattle.place.proofs.pair.place_pair.Lts as lts
-use Rattle.place.proofs.pair.finish.Reads as finish-reads
-use Rattle.place.proofs.pair.process_relocs.Reads as process-relocs-reads
-use Rattle.place.proofs.site.counts_fit.Reads as counts-fit-reads
-use Rattle.place.proofs.site.locate.Reads as locate-reads
 
 counts-fit-requires : tie.Need-counts-fit-requires
 counts-fit-requires c κs = search placing

@@ -1,10 +1,6 @@
 use Rattle.place.proofs.PairLaws.{relocating}
 use Rattle.place.proofs.pair.place_worked.Statement.{statement}
 use Rattle.place.proofs.pair.place_worked.Tie as tie
-use Rattle.place.proofs.pair.place_worked.Reads as reads
-use Rattle.place.proofs.pair.place_worked.Lts as lts
-use Rattle.place.proofs.image.write_image.Reads as write-image-reads
-use Rattle.place.proofs.walk.pair_rows.Reads as pair-rows-reads
 
 enum-known-worked : tie.Need-enum-known-worked
 enum-known-worked c = search relocating

@@ -1,36 +1,44 @@
-use Rattle.place.proofs.PairLaws.{processing}
+use Rattle.place.proofs.PlainPairLaws.{plainly}
 use Rattle.place.proofs.pair.process_relocs.Statement.{statement}
 use Rattle.place.proofs.pair.process_relocs.Tie as tie
-use Rattle.place.proofs.pair.process_relocs.Reads as reads
-use Rattle.place.proofs.pair.process_relocs.Lts as lts
-use Rattle.place.proofs.pair.place_worked.Reads as place-worked-reads
-use Rattle.place.proofs.work_line.work_line.Reads as work-line-reads
 
-work-line-requires : tie.Need-work-line-requires
-work-line-requires c κs = (search processing, (search processing, (search processing, (search processing, search processing, search processing))))
-
-place-worked-requires : tie.Need-place-worked-requires
-place-worked-requires c κs = (search processing, (search processing, (search processing, search processing)))
+write-plain-requires : tie.Need-write-plain-requires
+write-plain-requires c κs = search plainly
 
 same-length : tie.Need-same-length
-same-length c = search processing
+same-length c = search plainly
 
 same-length-2 : tie.Need-same-length-2
-same-length-2 c = search processing
-
-same-length-3 : tie.Need-same-length-3
-same-length-3 c = search processing
+same-length-2 c = search plainly
 
 returns : tie.Need-returns
-returns c = search processing
+returns c = search plainly
+
+place-fragments-requires : tie.Need-place-fragments-requires
+place-fragments-requires c κs = search plainly
+
+same-length-3 : tie.Need-same-length-3
+same-length-3 c = search plainly
+
+same-length-4 : tie.Need-same-length-4
+same-length-4 c = search plainly
+
+same-length-5 : tie.Need-same-length-5
+same-length-5 c = search plainly
+
+returns-2 : tie.Need-returns-2
+returns-2 c = search plainly
 
 pub process-relocs-spec : {M : Type 1} → statement M
 process-relocs-spec =
     tie.close
     (tie.spec
-    work-line-requires
-    place-worked-requires
+    write-plain-requires
     same-length
     same-length-2
+    returns
+    place-fragments-requires
     same-length-3
-    returns)
+    same-length-4
+    same-length-5
+    returns-2)

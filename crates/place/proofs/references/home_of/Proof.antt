@@ -1,9 +1,6 @@
 use Rattle.place.proofs.ReferenceLaws.{symbols}
 use Rattle.place.proofs.references.home_of.Statement.{statement}
 use Rattle.place.proofs.references.home_of.Tie as tie
-use Rattle.place.proofs.references.home_of.Reads as reads
-use Rattle.place.proofs.references.home_of.Lts as lts
-use Rattle.place.proofs.references.rank_of.Reads as rank-of-reads
 
 returns : tie.Need-returns
 returns c = search symbols

@@ -1,9 +1,6 @@
 use Rattle.place.proofs.ReferenceLaws.{keeping}
 use Rattle.place.proofs.references.kept_at.Statement.{statement}
 use Rattle.place.proofs.references.kept_at.Tie as tie
-use Rattle.place.proofs.references.kept_at.Reads as reads
-use Rattle.place.proofs.references.kept_at.Lts as lts
-use Rattle.cells.proofs.at.Reads as at-reads
 
 mul-at : tie.Need-mul-at
 mul-at c = search keeping

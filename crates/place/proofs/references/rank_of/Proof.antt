@@ -1,65 +1,25 @@
-use Rattle.place.proofs.ReferenceLaws.{ranking}
-use Rattle.place.proofs.ReferenceLaws.{Ranking}
-use Prim.Native.Nat.{_-_}
+use Rattle.place.proofs.SpotLaws.{spots}
 use Rattle.place.proofs.references.rank_of.Statement.{statement}
 use Rattle.place.proofs.references.rank_of.Tie as tie
-use Rattle.place.proofs.references.rank_of.Reads as reads
-use Rattle.place.proofs.references.rank_of.Lts as lts
-use Rattle.place.proofs.references.kept_at.Reads as kept-at-reads
 
-abbrev Inv-loop : tie.InvT-loop
-Inv-loop areas n i k₀ j₀ k j = Ranking areas n i k j
+returns : tie.Need-returns
+returns c = search spots
 
-abbrev μ-loop : tie.MeasureT-loop
-μ-loop areas n i k₀ j₀ k j = i - j
+mul-if2 : tie.Need-mul-if2
+mul-if2 c = search spots
 
-returns : tie.Need-returns Inv-loop μ-loop
-returns c = search ranking
+rank-at-requires : tie.Need-rank-at-requires
+rank-at-requires c κs = search spots
 
-loop-holds : tie.Need-loop-holds Inv-loop μ-loop
-loop-holds c = search ranking
+returns-2 : tie.Need-returns-2
+returns-2 c = search spots
 
-kept-at-requires : tie.Need-kept-at-requires Inv-loop μ-loop
-kept-at-requires c κs = search ranking
+spot-in-requires : tie.Need-spot-in-requires
+spot-in-requires c κs = search spots
 
-add-k : tie.Need-add-k Inv-loop μ-loop
-add-k c = search ranking
-
-add-j : tie.Need-add-j Inv-loop μ-loop
-add-j c = search ranking
-
-loop-less : tie.Need-loop-less Inv-loop μ-loop
-loop-less c = search ranking
-
-loop-again : tie.Need-loop-again Inv-loop μ-loop
-loop-again c = search ranking
-
-kept-at-requires-2 : tie.Need-kept-at-requires-2 Inv-loop μ-loop
-kept-at-requires-2 c κs = search ranking
-
-add-result : tie.Need-add-result Inv-loop μ-loop
-add-result c = search ranking
-
-returns-2 : tie.Need-returns-2 Inv-loop μ-loop
-returns-2 c = search ranking
-
-returns-3 : tie.Need-returns-3 Inv-loop μ-loop
-returns-3 c = search ranking
+returns-3 : tie.Need-returns-3
+returns-3 c = search spots
 
 pub rank-of-spec : {M : Type 1} → statement M
 rank-of-spec =
-    tie.close
-    (tie.spec
-    Inv-loop
-    μ-loop
-    returns
-    loop-holds
-    kept-at-requires
-    add-k
-    add-j
-    loop-less
-    loop-again
-    kept-at-requires-2
-    add-result
-    returns-2
-    returns-3)
+    tie.close (tie.spec returns mul-if2 rank-at-requires returns-2 spot-in-requires returns-3)

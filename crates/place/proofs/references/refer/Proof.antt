@@ -1,11 +1,6 @@
 use Rattle.place.proofs.ReferenceLaws.{referring}
 use Rattle.place.proofs.references.refer.Statement.{statement}
 use Rattle.place.proofs.references.refer.Tie as tie
-use Rattle.place.proofs.references.refer.Reads as reads
-use Rattle.place.proofs.references.refer.Lts as lts
-use Rattle.place.proofs.references.rank_of.Reads as rank-of-reads
-use Rattle.place.proofs.references.symbol_ref.Reads as symbol-ref-reads
-use Rattle.place.proofs.references.to_area.Reads as to-area-reads
 
 symbol-ref-requires : tie.Need-symbol-ref-requires
 symbol-ref-requires c κs = search referring

@@ -1,13 +1,6 @@
 use Rattle.place.proofs.ReferenceLaws.{looking}
 use Rattle.place.proofs.references.refers_at.Statement.{statement}
 use Rattle.place.proofs.references.refers_at.Tie as tie
-use Rattle.place.proofs.references.refers_at.Reads as reads
-use Rattle.place.proofs.references.refers_at.Lts as lts
-use Rattle.cells.proofs.at.Reads as at-reads
-use Rattle.cells.proofs.wide.Reads as wide-reads
-use Rattle.mode.proofs.gives.Reads as gives-reads
-use Rattle.place.proofs.named.class_at.Reads as class-at-reads
-use Rattle.place.proofs.references.refer.Reads as refer-reads
 
 at-requires : tie.Need-at-requires
 at-requires c κs = search looking

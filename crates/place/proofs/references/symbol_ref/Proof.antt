@@ -1,12 +1,6 @@
 use Rattle.place.proofs.ReferenceLaws.{symbols}
 use Rattle.place.proofs.references.symbol_ref.Statement.{statement}
 use Rattle.place.proofs.references.symbol_ref.Tie as tie
-use Rattle.place.proofs.references.symbol_ref.Reads as reads
-use Rattle.place.proofs.references.symbol_ref.Lts as lts
-use Rattle.cells.proofs.at.Reads as at-reads
-use Rattle.cells.proofs.wide.Reads as wide-reads
-use Rattle.place.proofs.references.home_of.Reads as home-of-reads
-use Rattle.place.proofs.references.to_area.Reads as to-area-reads
 
 mul-at : tie.Need-mul-at
 mul-at c = search symbols

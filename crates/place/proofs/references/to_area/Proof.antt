@@ -1,8 +1,6 @@
 use Rattle.place.proofs.ReferenceLaws.{symbols}
 use Rattle.place.proofs.references.to_area.Statement.{statement}
 use Rattle.place.proofs.references.to_area.Tie as tie
-use Rattle.place.proofs.references.to_area.Reads as reads
-use Rattle.place.proofs.references.to_area.Lts as lts
 
 returns : tie.Need-returns
 returns c = search symbols

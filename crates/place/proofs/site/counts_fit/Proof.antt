@@ -1,10 +1,6 @@
 use Rattle.place.proofs.SiteLaws.{fitting}
 use Rattle.place.proofs.site.counts_fit.Statement.{statement}
 use Rattle.place.proofs.site.counts_fit.Tie as tie
-use Rattle.place.proofs.site.counts_fit.Reads as reads
-use Rattle.place.proofs.site.counts_fit.Lts as lts
-use Rattle.place.proofs.site.filled_fits.Reads as filled-fits-reads
-use Rattle.place.proofs.site.line_fits.Reads as line-fits-reads
 
 line-fits-requires : tie.Need-line-fits-requires
 line-fits-requires c κs = search fitting

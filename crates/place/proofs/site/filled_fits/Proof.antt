@@ -1,8 +1,6 @@
 use Rattle.place.proofs.SiteLaws.{fitting}
 use Rattle.place.proofs.site.filled_fits.Statement.{statement}
 use Rattle.place.proofs.site.filled_fits.Tie as tie
-use Rattle.place.proofs.site.filled_fits.Reads as reads
-use Rattle.place.proofs.site.filled_fits.Lts as lts
 
 returns : tie.Need-returns
 returns c = search fitting

@@ -1,10 +1,6 @@
 use Rattle.place.proofs.SiteLaws.{images}
 use Rattle.place.proofs.site.image_fits.Statement.{statement}
 use Rattle.place.proofs.site.image_fits.Tie as tie
-use Rattle.place.proofs.site.image_fits.Reads as reads
-use Rattle.place.proofs.site.image_fits.Lts as lts
-use Rattle.cells.proofs.wide.Reads as wide-reads
-use Rattle.place.proofs.named.names_classes.Reads as names-classes-reads
 
 wide-requires : tie.Need-wide-requires
 wide-requires c κs = search images

@@ -1,17 +1,15 @@
 use Rattle.place.proofs.SiteLaws.{locating}
 use Rattle.place.proofs.site.locate.Statement.{statement}
 use Rattle.place.proofs.site.locate.Tie as tie
-use Rattle.place.proofs.site.locate.Reads as reads
-use Rattle.place.proofs.site.locate.Lts as lts
-use Rattle.place.proofs.references.rank_of.Reads as rank-of-reads
-use Rattle.place.proofs.site.image_fits.Reads as image-fits-reads
-use Rattle.place.proofs.site.site_of.Reads as site-of-reads
-
-rank-of-requires : tie.Need-rank-of-requires
-rank-of-requires c κs = search locating
 
 returns : tie.Need-returns
 returns c = search locating
+
+spot-of-requires : tie.Need-spot-of-requires
+spot-of-requires c κs = search locating
+
+returns-2 : tie.Need-returns-2
+returns-2 c = search locating
 
 site-of-requires : tie.Need-site-of-requires
 site-of-requires c κs = search locating
@@ -19,13 +17,20 @@ site-of-requires c κs = search locating
 image-fits-requires : tie.Need-image-fits-requires
 image-fits-requires c κs = search locating
 
-returns-2 : tie.Need-returns-2
-returns-2 c = search locating
-
 returns-3 : tie.Need-returns-3
 returns-3 c = search locating
+
+returns-4 : tie.Need-returns-4
+returns-4 c = search locating
 
 pub locate-spec : {M : Type 1} → statement M
 locate-spec =
     tie.close
-    (tie.spec rank-of-requires returns site-of-requires image-fits-requires returns-2 returns-3)
+    (tie.spec
+    returns
+    spot-of-requires
+    returns-2
+    site-of-requires
+    image-fits-requires
+    returns-3
+    returns-4)

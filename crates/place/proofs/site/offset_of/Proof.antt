@@ -3,9 +3,6 @@ use Rattle.place.proofs.SiteLaws.{Adding}
 use Prim.Native.Nat.{_-_}
 use Rattle.place.proofs.site.offset_of.Statement.{statement}
 use Rattle.place.proofs.site.offset_of.Tie as tie
-use Rattle.place.proofs.site.offset_of.Reads as reads
-use Rattle.place.proofs.site.offset_of.Lts as lts
-use Rattle.place.proofs.site.size_at.Reads as size-at-reads
 
 abbrev Inv-loop : tie.InvT-loop
 Inv-loop areas n i s₀ j₀ s j = Adding areas n i s j

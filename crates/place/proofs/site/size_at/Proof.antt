@@ -1,10 +1,6 @@
 use Rattle.place.proofs.SiteLaws.{sizing}
 use Rattle.place.proofs.site.size_at.Statement.{statement}
 use Rattle.place.proofs.site.size_at.Tie as tie
-use Rattle.place.proofs.site.size_at.Reads as reads
-use Rattle.place.proofs.site.size_at.Lts as lts
-use Rattle.cells.proofs.at.Reads as at-reads
-use Rattle.cells.proofs.wide.Reads as wide-reads
 
 mul-at : tie.Need-mul-at
 mul-at c = search sizing

@@ -3,22 +3,21 @@ use Rattle.place.proofs.WalkLaws.{Walking, bounds}
 use Prim.Native.Nat.{_-_}
 use Rattle.place.proofs.walk.fixup_rows.Statement.{statement}
 use Rattle.place.proofs.walk.fixup_rows.Tie as tie
-use Rattle.place.proofs.walk.fixup_rows.Reads as reads
-use Rattle.place.proofs.walk.fixup_rows.Lts as lts
-use Rattle.place.proofs.check.grows.Reads as grows-reads
-use Rattle.place.proofs.walk.fixups_at.Reads as fixups-at-reads
 
 abbrev Inv-loop : tie.InvT-loop
-Inv-loop table site ms es xs areas symbols ns wk rows₀ n k₀ e₀ p₀ rows k e p = Walking ms es xs areas symbols ns site wk n rows₀ rows k e p
+Inv-loop table site ms es xs areas symbols ns wk rows₀ n k₀ e₀ p₀ next₀ rows k e p next = Walking table ms es xs areas symbols ns site wk n rows₀ rows k e p next
 
 abbrev μ-loop : tie.MeasureT-loop
-μ-loop table site ms es xs areas symbols ns wk rows₀ n k₀ e₀ p₀ rows k e p = n - e
+μ-loop table site ms es xs areas symbols ns wk rows₀ n k₀ e₀ p₀ next₀ rows k e p next = n - e
 
 add-n : tie.Need-add-n Inv-loop μ-loop
 add-n c = search walking
 
 cast-n : tie.Need-cast-n Inv-loop μ-loop
 cast-n c = search walking
+
+next-at-requires : tie.Need-next-at-requires Inv-loop μ-loop
+next-at-requires c κs = search walking
 
 loop-holds : tie.Need-loop-holds Inv-loop μ-loop
 loop-holds c = search walking
@@ -29,8 +28,8 @@ same-length c = search walking
 returns : tie.Need-returns Inv-loop μ-loop
 returns c = search walking
 
-fixups-at-requires : tie.Need-fixups-at-requires Inv-loop μ-loop
-fixups-at-requires c κs = (search walking, (search walking, (search walking, search walking, search walking)))
+entry-rows-requires : tie.Need-entry-rows-requires Inv-loop μ-loop
+entry-rows-requires c κs = (search walking, (search walking, (search walking, (search walking, search walking, search walking))))
 
 enum-known-r : tie.Need-enum-known-r Inv-loop μ-loop
 enum-known-r c = search walking
@@ -51,10 +50,13 @@ add-p : tie.Need-add-p Inv-loop μ-loop
 add-p c = search bounds
 
 add-e : tie.Need-add-e Inv-loop μ-loop
-add-e c = search walking
+add-e c = search bounds
+
+next-from-requires : tie.Need-next-from-requires Inv-loop μ-loop
+next-from-requires c κs = search walking
 
 loop-less : tie.Need-loop-less Inv-loop μ-loop
-loop-less c = search walking
+loop-less c = search bounds
 
 loop-again : tie.Need-loop-again Inv-loop μ-loop
 loop-again c = search walking
@@ -73,10 +75,11 @@ fixup-rows-spec =
     μ-loop
     add-n
     cast-n
+    next-at-requires
     loop-holds
     same-length
     returns
-    fixups-at-requires
+    entry-rows-requires
     enum-known-r
     enum-told
     same-length-2
@@ -84,6 +87,7 @@ fixup-rows-spec =
     grows-requires
     add-p
     add-e
+    next-from-requires
     loop-less
     loop-again
     same-length-3

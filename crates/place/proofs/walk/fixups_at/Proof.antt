@@ -3,10 +3,6 @@ use Rattle.place.proofs.WalkLaws.{Fixing}
 use Prim.Native.Nat.{_-_}
 use Rattle.place.proofs.walk.fixups_at.Statement.{statement}
 use Rattle.place.proofs.walk.fixups_at.Tie as tie
-use Rattle.place.proofs.walk.fixups_at.Reads as reads
-use Rattle.place.proofs.walk.fixups_at.Lts as lts
-use Rattle.place.proofs.references.refers_at.Reads as refers-at-reads
-use Rattle.place.proofs.walk.add.Reads as add-reads
 
 abbrev Inv-loop : tie.InvT-loop
 Inv-loop table site ms es xs areas symbols ns e p rows₀ k j₀ i₀ rows j i = Fixing ms es xs areas symbols ns site e p k rows₀ rows j i

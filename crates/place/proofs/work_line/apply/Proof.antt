@@ -1,9 +1,6 @@
 use Rattle.place.proofs.WorkLaws.{parts}
 use Rattle.place.proofs.work_line.apply.Statement.{statement}
 use Rattle.place.proofs.work_line.apply.Tie as tie
-use Rattle.place.proofs.work_line.apply.Reads as reads
-use Rattle.place.proofs.work_line.apply.Lts as lts
-use Rattle.mode.proofs.modify_cmf_to_fixup.Reads as modify-cmf-to-fixup-reads
 
 sub-modify-cmf-to-fixup : tie.Need-sub-modify-cmf-to-fixup
 sub-modify-cmf-to-fixup c = search parts

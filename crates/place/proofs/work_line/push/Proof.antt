@@ -1,9 +1,6 @@
 use Rattle.place.proofs.WorkLaws.{stepping}
 use Rattle.place.proofs.work_line.push.Statement.{statement}
 use Rattle.place.proofs.work_line.push.Tie as tie
-use Rattle.place.proofs.work_line.push.Reads as reads
-use Rattle.place.proofs.work_line.push.Lts as lts
-use Rattle.cells.proofs.put_u32.Reads as put-u32-reads
 
 put-u32-requires : tie.Need-put-u32-requires
 put-u32-requires c κs = search stepping

@@ -1,10 +1,6 @@
 use Rattle.place.proofs.WorkLaws.{content}
 use Rattle.place.proofs.work_line.start_line.Statement.{statement}
 use Rattle.place.proofs.work_line.start_line.Tie as tie
-use Rattle.place.proofs.work_line.start_line.Reads as reads
-use Rattle.place.proofs.work_line.start_line.Lts as lts
-use Rattle.cells.proofs.copy_bytes.Reads as copy-bytes-reads
-use Rattle.cells.proofs.fill_bytes.Reads as fill-bytes-reads
 
 copy-bytes-requires : tie.Need-copy-bytes-requires
 copy-bytes-requires c κs = search content

@@ -1,11 +1,6 @@
 use Rattle.place.proofs.WorkLaws.{turning}
 use Rattle.place.proofs.work_line.turn.Statement.{statement}
 use Rattle.place.proofs.work_line.turn.Tie as tie
-use Rattle.place.proofs.work_line.turn.Reads as reads
-use Rattle.place.proofs.work_line.turn.Lts as lts
-use Rattle.cells.proofs.at.Reads as at-reads
-use Rattle.cells.proofs.wide.Reads as wide-reads
-use Rattle.place.proofs.work_line.work_in.Reads as work-in-reads
 
 at-requires : tie.Need-at-requires
 at-requires c κs = search turning

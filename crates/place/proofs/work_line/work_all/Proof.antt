@@ -5,9 +5,6 @@ use lib.ListN.{length}
 use Prim.Native.Nat.{_-_}
 use Rattle.place.proofs.work_line.work_all.Statement.{statement}
 use Rattle.place.proofs.work_line.work_all.Tie as tie
-use Rattle.place.proofs.work_line.work_all.Reads as reads
-use Rattle.place.proofs.work_line.work_all.Lts as lts
-use Rattle.place.proofs.work_line.turn.Reads as turn-reads
 
 abbrev Inv-loop : tie.InvT-loop
 Inv-loop table line ms es wv₀ wm₀ wk₀ ns₀ m₀ i₀ wv wm wk ns m i = Working line ms es (lineOf wv₀ wm₀ wk₀ ns₀ 0) (length ns₀) wv wm wk ns m i

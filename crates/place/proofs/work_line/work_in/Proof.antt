@@ -1,13 +1,6 @@
 use Rattle.place.proofs.WorkLaws.{stepping}
 use Rattle.place.proofs.work_line.work_in.Statement.{statement}
 use Rattle.place.proofs.work_line.work_in.Tie as tie
-use Rattle.place.proofs.work_line.work_in.Reads as reads
-use Rattle.place.proofs.work_line.work_in.Lts as lts
-use Rattle.cells.proofs.at.Reads as at-reads
-use Rattle.mode.proofs.touched.Reads as touched-reads
-use Rattle.place.proofs.named.class_at.Reads as class-at-reads
-use Rattle.place.proofs.work_line.apply.Reads as apply-reads
-use Rattle.place.proofs.work_line.push.Reads as push-reads
 
 class-at-requires : tie.Need-class-at-requires
 class-at-requires c κs = search stepping

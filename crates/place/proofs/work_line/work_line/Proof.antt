@@ -1,10 +1,6 @@
 use Rattle.place.proofs.PairLaws.{preparing}
 use Rattle.place.proofs.work_line.work_line.Statement.{statement}
 use Rattle.place.proofs.work_line.work_line.Tie as tie
-use Rattle.place.proofs.work_line.work_line.Reads as reads
-use Rattle.place.proofs.work_line.work_line.Lts as lts
-use Rattle.place.proofs.work_line.start_line.Reads as start-line-reads
-use Rattle.place.proofs.work_line.work_all.Reads as work-all-reads
 
 start-line-requires : tie.Need-start-line-requires
 start-line-requires c κs = search preparing

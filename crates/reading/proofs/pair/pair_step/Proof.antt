@@ -1,4 +1,4 @@
-use Rattle.reading.proofs.PairLines.{psteps}
+use Rattle.reading.proofs.PairLines.{psteps, longs}
 use Rattle.reading.proofs.PairLines.{pused-in}
 use Rattle.reading.proofs.pair.pair_step.Statement.{statement}
 use Rattle.reading.proofs.pair.pair_step.Tie as tie
@@ -7,7 +7,7 @@ line-at-requires : tie.Need-line-at-requires
 line-at-requires c κs = search psteps
 
 returns : tie.Need-returns
-returns c = search psteps
+returns c = (search psteps, search longs)
 
 line-at-requires-2 : tie.Need-line-at-requires-2
 line-at-requires-2 c κs = search psteps
@@ -37,10 +37,10 @@ read-pair-requires : tie.Need-read-pair-requires
 read-pair-requires c κs = search psteps
 
 step-from-requires : tie.Need-step-from-requires
-step-from-requires c κs = let k = c .before .before .before .before .before .before .before in let l = k .before .before .before in let a = l .before .before in (search psteps, pused-in _ (a .args .t .now) (a .args .p) (l .line-at .ensures) (k .line-at2 .ensures) (c .read-pair .ensures) (a .pre .1))
+step-from-requires c κs = let k = c .before .before .before .before .before .before .before in let l = k .before .before .before in let a = l .before .before in (search psteps, pused-in _ (a .args .t .now) (a .args .p) (l .line-at .ensures) (k .line-at2 .ensures) (c .read-pair .ensures .0) (a .pre .1))
 
 returns-2 : tie.Need-returns-2
-returns-2 c = search psteps
+returns-2 c = (search psteps, search longs)
 
 pub pair-step-spec : {M : Type 1} → statement M
 pair-step-spec =

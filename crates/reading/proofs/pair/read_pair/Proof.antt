@@ -1,4 +1,4 @@
-use Rattle.reading.proofs.PairLines.{pairing}
+use Rattle.reading.proofs.PairLines.{pairing, longs}
 use Rattle.reading.proofs.pair.read_pair.Statement.{statement}
 use Rattle.reading.proofs.pair.read_pair.Tie as tie
 
@@ -15,7 +15,7 @@ skipped-pair-requires : tie.Need-skipped-pair-requires
 skipped-pair-requires c κs = search pairing
 
 returns : tie.Need-returns
-returns c = search pairing
+returns c = (search pairing, search longs)
 
 parse-reloc-line-requires : tie.Need-parse-reloc-line-requires
 parse-reloc-line-requires c κs = search pairing
@@ -30,7 +30,7 @@ skipped-pair-requires-2 : tie.Need-skipped-pair-requires-2
 skipped-pair-requires-2 c κs = search pairing
 
 returns-2 : tie.Need-returns-2
-returns-2 c = search pairing
+returns-2 c = (search pairing, search longs)
 
 add-placed-pair : tie.Need-add-placed-pair
 add-placed-pair c = search pairing
@@ -39,7 +39,7 @@ placed-pair-requires : tie.Need-placed-pair-requires
 placed-pair-requires c κs = search pairing
 
 returns-3 : tie.Need-returns-3
-returns-3 c = search pairing
+returns-3 c = (search pairing, search longs)
 
 pub read-pair-spec : {M : Type 1} → statement M
 read-pair-spec =

@@ -1,47 +1,18 @@
-use Rattle.reading.proofs.WayIn.{looking}
-use Prim.Native.Nat.{_-_}
-use lib.ListN.{length}
-use Rattle.reading.proofs.WayIn.{Looking}
+use Rattle.reading.proofs.WayIn.{highs}
 use Rattle.reading.proofs.way_in.first_high.Statement.{statement}
 use Rattle.reading.proofs.way_in.first_high.Tie as tie
 
-abbrev Inv-loop : tie.InvT-loop
-Inv-loop t i₀ i = Looking t i
+highest-requires : tie.Need-highest-requires
+highest-requires c κs = search highs
 
-abbrev μ-loop : tie.MeasureT-loop
-μ-loop t i₀ i = length t - i
+returns : tie.Need-returns
+returns c = search highs
 
-loop-holds : tie.Need-loop-holds Inv-loop μ-loop
-loop-holds c = search looking
+find-high-requires : tie.Need-find-high-requires
+find-high-requires c κs = search highs
 
-shared-slice-read-if1 : tie.Need-shared-slice-read-if1 Inv-loop μ-loop
-shared-slice-read-if1 c = search looking
-
-returns : tie.Need-returns Inv-loop μ-loop
-returns c = search looking
-
-add-i : tie.Need-add-i Inv-loop μ-loop
-add-i c = search looking
-
-loop-less : tie.Need-loop-less Inv-loop μ-loop
-loop-less c = search looking
-
-loop-again : tie.Need-loop-again Inv-loop μ-loop
-loop-again c = search looking
-
-returns-2 : tie.Need-returns-2 Inv-loop μ-loop
-returns-2 c = search looking
+returns-2 : tie.Need-returns-2
+returns-2 c = search highs
 
 pub first-high-spec : {M : Type 1} → statement M
-first-high-spec =
-    tie.close
-    (tie.spec
-    Inv-loop
-    μ-loop
-    loop-holds
-    shared-slice-read-if1
-    returns
-    add-i
-    loop-less
-    loop-again
-    returns-2)
+first-high-spec = tie.close (tie.spec highest-requires returns find-high-requires returns-2)

@@ -1,12 +1,12 @@
-use Rattle.text.proofs.Laws.Joined.{widths}
+use Rattle.text.proofs.Laws.Joins.{widths}
 use Rattle.text.proofs.joined.parse_area_index.Statement.{statement}
 use Rattle.text.proofs.joined.parse_area_index.Tie as tie
 
-joined-of-requires : tie.Need-joined-of-requires
-joined-of-requires c κs = search widths
+two-of-requires : tie.Need-two-of-requires
+two-of-requires c κs = search widths
 
 returns : tie.Need-returns
 returns c = search widths
 
 pub parse-area-index-spec : {M : Type 1} → statement M
-parse-area-index-spec = tie.close (tie.spec joined-of-requires returns)
+parse-area-index-spec = tie.close (tie.spec two-of-requires returns)

@@ -1,18 +1,25 @@
-use Rattle.text.proofs.Laws.Numbers.{bytes}
+use Rattle.text.proofs.Laws.Short.{quick}
 use Rattle.text.proofs.numbers.next_byte.Statement.{statement}
 use Rattle.text.proofs.numbers.next_byte.Tie as tie
 
-past-kind-requires : tie.Need-past-kind-requires
-past-kind-requires c κs = search bytes
+spaced-byte-requires : tie.Need-spaced-byte-requires
+spaced-byte-requires c κs = search quick
+
+cast-t6 : tie.Need-cast-t6
+cast-t6 c = search quick
+
+add-t7 : tie.Need-add-t7
+add-t7 c = search quick
 
 returns : tie.Need-returns
-returns c = search bytes
+returns c = search quick
 
-parse-byte-requires : tie.Need-parse-byte-requires
-parse-byte-requires c κs = search bytes
+any-next-requires : tie.Need-any-next-requires
+any-next-requires c κs = search quick
 
 returns-2 : tie.Need-returns-2
-returns-2 c = search bytes
+returns-2 c = search quick
 
 pub next-byte-spec : {M : Type 1} → statement M
-next-byte-spec = tie.close (tie.spec past-kind-requires returns parse-byte-requires returns-2)
+next-byte-spec =
+    tie.close (tie.spec spaced-byte-requires cast-t6 add-t7 returns any-next-requires returns-2)

@@ -1,25 +1,25 @@
-use Rattle.text.proofs.Laws.Numbers.{bytes}
+use Rattle.text.proofs.Laws.Short.{quick}
 use Rattle.text.proofs.numbers.parse_byte.Statement.{statement}
 use Rattle.text.proofs.numbers.parse_byte.Tie as tie
 
-parse-number-requires : tie.Need-parse-number-requires
-parse-number-requires c κs = search bytes
+short-byte-requires : tie.Need-short-byte-requires
+short-byte-requires c κs = search quick
 
-enum-known-n : tie.Need-enum-known-n
-enum-known-n c = search bytes
+cast-t6 : tie.Need-cast-t6
+cast-t6 c = search quick
 
-enum-told : tie.Need-enum-told
-enum-told c = search bytes
+add-t7 : tie.Need-add-t7
+add-t7 c = search quick
 
 returns : tie.Need-returns
-returns c = search bytes
+returns c = search quick
+
+any-byte-requires : tie.Need-any-byte-requires
+any-byte-requires c κs = search quick
 
 returns-2 : tie.Need-returns-2
-returns-2 c = search bytes
-
-returns-3 : tie.Need-returns-3
-returns-3 c = search bytes
+returns-2 c = search quick
 
 pub parse-byte-spec : {M : Type 1} → statement M
 parse-byte-spec =
-    tie.close (tie.spec parse-number-requires enum-known-n enum-told returns returns-2 returns-3)
+    tie.close (tie.spec short-byte-requires cast-t6 add-t7 returns any-byte-requires returns-2)

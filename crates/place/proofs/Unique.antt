@@ -1,0 +1,146 @@
+-- No second answer fits a contract of placing: neither another answer nor another byte or number in a lent buffer.
+-- Assumes nothing.
+use Prim.Native.Nat.{ℕ, _*_, _≤_}
+use mathlib.Core.Path.{_≡_, refl, ap, sym, _∙_}
+use mathlib.Core.Bool.{Bool, true, false, _&&_}
+use mathlib.Core.List.{List, _++_}
+use mathlib.Core.Option.{none, some}
+use native.Mathlib.Omega.{arith}
+use lib.Dec.{leb}
+use borrow.Author.Tests.{leb-true}
+use lib.ListN.{length, take, drop, take-append-drop}
+use Rattle.format.specs.Lists.{pick, flat}
+use Rattle.format.specs.Outcome.{Outcome, fine}
+use Rattle.format.specs.Placing.{State}
+use Rattle.format.specs.Fixups.{Fixup}
+use Rattle.format.specs.Rows.{fixupNumbers}
+use Rattle.laws.specs.Rows.{fixupsIn, stateOf}
+use Rattle.place.specs.Pair.{PairPlaced, told, changes, fits}
+use Rattle.place.specs.Site.{lineFits, filledFits}
+use Rattle.place.specs.declared.pair.Line.{Line}
+use Rattle.place.specs.declared.pair.Filled.{Filled}
+use Rattle.place.specs.Group.{Regrouped}
+use Rattle.place.specs.Group as group
+use Rattle.place.specs.declared.pair.Placed.{Placed}
+use Rattle.place.specs.declared.pair.Placed.the-variants.{Done, Stopped, Misfit}
+use Rattle.place.specs.declared.group.Grouped.{Grouped}
+use Rattle.place.specs.declared.group.Grouped.the-variants as grouped
+use Rattle.place.proofs.NamedLaws.{both-true}
+use Rattle.place.proofs.RowLaws.{count-rows, rows-numbers}
+
+-- the decoded rows fix every number of as many rows
+pub rows-fixed : (xs ys : List ℕ) (j k : ℕ) → 9 * j ≤ length xs → 9 * k ≤ length ys → fixupsIn xs j ≡ fixupsIn ys k → (j ≡ k) × (take (9 * j) xs ≡ take (9 * k) ys)
+rows-fixed xs ys j k p q e = (
+  sym (count-rows xs j) ∙ (ap (λ (l : List Fixup). length l) e ∙ count-rows ys k),
+  sym (rows-numbers xs j p) ∙ (ap (λ (l : List Fixup). flat fixupNumbers l) e ∙ rows-numbers ys k q),
+)
+
+-- what two answers and the buffers behind them have in common
+pub record Same (r : Placed) (vs ms rows : List ℕ) (q : Placed) (vs′ ms′ rows′ : List ℕ) : Type 0 where
+  pub answer : r ≡ q
+  pub values : vs ≡ vs′
+  pub masks : ms ≡ ms′
+  pub fixups : rows ≡ rows′
+
+-- what an answer tells, with the buffers behind it, is told by no other
+one-told : (r q : Placed) (vs ms rows vs′ ms′ rows′ : List ℕ) → told r vs ms rows ≡ told q vs′ ms′ rows′ → changes r ≡ changes q
+one-told (Done j) (Done k) vs ms rows vs′ ms′ rows′ e = refl
+one-told (Done j) (Stopped n p) vs ms rows vs′ ms′ rows′ e = absurd (let z : _≡_ {A = ℕ} 0 1 = cc in omega arith)
+one-told (Done j) Misfit vs ms rows vs′ ms′ rows′ e = absurd (let z : _≡_ {A = ℕ} 0 1 = cc in omega arith)
+one-told (Stopped n p) (Done k) vs ms rows vs′ ms′ rows′ e = absurd (let z : _≡_ {A = ℕ} 0 1 = cc in omega arith)
+one-told (Stopped n p) (Stopped m o) vs ms rows vs′ ms′ rows′ e = refl
+one-told (Stopped n p) Misfit vs ms rows vs′ ms′ rows′ e = refl
+one-told Misfit (Done k) vs ms rows vs′ ms′ rows′ e = absurd (let z : _≡_ {A = ℕ} 0 1 = cc in omega arith)
+one-told Misfit (Stopped n p) vs ms rows vs′ ms′ rows′ e = refl
+one-told Misfit Misfit vs ms rows vs′ ms′ rows′ e = refl
+
+-- two answers that change nothing
+one-refusal : (r q : Placed) (vs ms rows vs′ ms′ rows′ : List ℕ) → changes r ≡ false → told r vs ms rows ≡ told q vs′ ms′ rows′ → r ≡ q
+one-refusal (Done j) q vs ms rows vs′ ms′ rows′ c e = absurd (let z : _≡_ {A = ℕ} 0 1 = cc in omega arith)
+one-refusal (Stopped n p) (Done k) vs ms rows vs′ ms′ rows′ c e = absurd (let z : _≡_ {A = ℕ} 0 1 = cc in omega arith)
+one-refusal (Stopped n p) (Stopped m o) vs ms rows vs′ ms′ rows′ c e =
+    let a : n ≡ m = cc in
+    let b : p ≡ o = cc in
+    rw (a, b)
+one-refusal (Stopped n p) Misfit vs ms rows vs′ ms′ rows′ c e = absurd (let z : _≡_ {A = ℕ} 0 1 = cc in omega arith)
+one-refusal Misfit (Done k) vs ms rows vs′ ms′ rows′ c e = absurd (let z : _≡_ {A = ℕ} 0 1 = cc in omega arith)
+one-refusal Misfit (Stopped m o) vs ms rows vs′ ms′ rows′ c e = absurd (let z : _≡_ {A = ℕ} 0 1 = cc in omega arith)
+one-refusal Misfit Misfit vs ms rows vs′ ms′ rows′ c e = refl
+
+-- what is placed fits
+done-fits : (fit : Bool) (x y : Outcome State) → some x ≡ pick fit (some y) none → fit ≡ true
+done-fits true x y e = refl
+done-fits false x y e = absurd (let z : _≡_ {A = ℕ} 0 1 = cc in omega arith)
+
+module _ (fit : Bool) (o : (radix end : ℕ) → Outcome State) (vs ms rows : List ℕ) (room : fit ≡ true → 9216 ≤ length rows)
+    (vs₁ ms₁ rows₁ vs₂ ms₂ rows₂ : List ℕ) (l₁ : length rows₁ ≡ length rows) (l₂ : length rows₂ ≡ length rows) where
+  both-done : (j k : ℕ) → PairPlaced fit o vs ms rows (Done j) vs₁ ms₁ rows₁ → PairPlaced fit o vs ms rows (Done k) vs₂ ms₂ rows₂ → Same (Done j) vs₁ ms₁ rows₁ (Done k) vs₂ ms₂ rows₂
+  unfolding stateOf
+  both-done j k a b =
+      let e : told (Done j) vs₁ ms₁ rows₁ ≡ told (Done k) vs₂ ms₂ rows₂ = a .says 0 0 ∙ sym (b .says 0 0) in
+      let s : stateOf vs₁ ms₁ rows₁ j ≡ stateOf vs₂ ms₂ rows₂ k = cc in
+      let f : fixupsIn rows₁ j ≡ fixupsIn rows₂ k = ap (λ (x : State). x .fixups) s in
+      let h : 9216 ≤ length rows = room (done-fits fit (fine (stateOf vs₁ ms₁ rows₁ j)) (o 0 0) (a .says 0 0)) in
+      let n : (j ≡ k) × (take (9 * j) rows₁ ≡ take (9 * k) rows₂) = rows-fixed rows₁ rows₂ j k (let u = a .few in omega arith) (let u = b .few in omega arith) f in
+      record {
+        answer = ap Done (n .0);
+        values = ap (λ (x : State). x .values) s;
+        masks = ap (λ (x : State). x .masks) s;
+        fixups =
+            sym (take-append-drop (9 * j) rows₁)
+            ∙ (ap (λ (l : List ℕ). l ++ drop (9 * j) rows₁) (n .1)
+            ∙ (ap (λ (l : List ℕ). take (9 * k) rows₂ ++ l) (a .rest ∙ (ap (λ (x : ℕ). drop (9 * x) rows) (n .0) ∙ sym (b .rest)))
+            ∙ take-append-drop (9 * k) rows₂));
+      }
+
+  still : (r q : Placed) → changes r ≡ false → PairPlaced fit o vs ms rows r vs₁ ms₁ rows₁ → PairPlaced fit o vs ms rows q vs₂ ms₂ rows₂ → Same r vs₁ ms₁ rows₁ q vs₂ ms₂ rows₂
+  still r q c a b =
+      let e : told r vs₁ ms₁ rows₁ ≡ told q vs₂ ms₂ rows₂ = a .says 0 0 ∙ sym (b .says 0 0) in
+      let x = a .same c in
+      let y = b .same (sym (one-told r q vs₁ ms₁ rows₁ vs₂ ms₂ rows₂ e) ∙ c) in
+      record {
+        answer = one-refusal r q vs₁ ms₁ rows₁ vs₂ ms₂ rows₂ c e;
+        values = x .0 ∙ sym (y .0);
+        masks = x .1 .0 ∙ sym (y .1 .0);
+        fixups = x .1 .1 ∙ sym (y .1 .1);
+      }
+
+  placed-once : (r q : Placed) → PairPlaced fit o vs ms rows r vs₁ ms₁ rows₁ → PairPlaced fit o vs ms rows q vs₂ ms₂ rows₂ → Same r vs₁ ms₁ rows₁ q vs₂ ms₂ rows₂
+  placed-once (Done j) (Done k) a b = both-done j k a b
+  placed-once (Done j) (Stopped n p) a b =
+      let e = one-told (Done j) (Stopped n p) vs₁ ms₁ rows₁ vs₂ ms₂ rows₂ (a .says 0 0 ∙ sym (b .says 0 0)) in
+      absurd (let z : _≡_ {A = ℕ} 0 1 = cc in omega arith)
+  placed-once (Done j) Misfit a b =
+      let e = one-told (Done j) Misfit vs₁ ms₁ rows₁ vs₂ ms₂ rows₂ (a .says 0 0 ∙ sym (b .says 0 0)) in
+      absurd (let z : _≡_ {A = ℕ} 0 1 = cc in omega arith)
+  placed-once (Stopped n p) q a b = still (Stopped n p) q refl a b
+  placed-once Misfit q a b = still Misfit q refl a b
+
+-- rows that fit have room for the bound
+fits-room : (table : List ℕ) (l : Line) (bs ms areas : List ℕ) (n : Filled) (rows : List ℕ) → fits table l bs ms areas n rows ≡ true → 9216 ≤ length rows
+unfolding fits filledFits
+fits-room table l bs ms areas n rows e =
+    let a = both-true (lineFits l (length bs) && filledFits n (length rows)) _ e in
+    let b = both-true (lineFits l (length bs)) (filledFits n (length rows)) (a .0) in
+    let c = both-true (leb (n .areas) 64) _ (b .1) in
+    let d = both-true (leb (n .symbols) 1024) _ (c .1) in
+    let f = both-true (leb (n .fixups) 1024) _ (d .1) in
+    leb-true 9216 (length rows) (f .1)
+
+-- `place_pair`: a lent buffer keeps its length
+pub one-pair : (table : List ℕ) (l : Line) (bs ms areas : List ℕ) (n : Filled) (o : (radix end : ℕ) → Outcome State) (vs masks rows : List ℕ) (r q : Placed) (vs₁ ms₁ rows₁ vs₂ ms₂ rows₂ : List ℕ)
+    → length rows₁ ≡ length rows → length rows₂ ≡ length rows
+    → PairPlaced (fits table l bs ms areas n rows) o vs masks rows r vs₁ ms₁ rows₁ → PairPlaced (fits table l bs ms areas n rows) o vs masks rows q vs₂ ms₂ rows₂
+    → Same r vs₁ ms₁ rows₁ q vs₂ ms₂ rows₂
+one-pair table l bs ms areas n o vs masks rows r q vs₁ ms₁ rows₁ vs₂ ms₂ rows₂ l₁ l₂ a b =
+    placed-once (fits table l bs ms areas n rows) o vs masks rows (fits-room table l bs ms areas n rows) vs₁ ms₁ rows₁ vs₂ ms₂ rows₂ l₁ l₂ r q a b
+
+-- `by_area`
+pub one-grouping : (k n : ℕ) (rows out : List ℕ) (r q : Grouped) (out₁ out₂ : List ℕ) → Regrouped k n rows out r out₁ → Regrouped k n rows out q out₂ → (r ≡ q) × (out₁ ≡ out₂)
+one-grouping k n rows out r q out₁ out₂ a b = (injective r q (a .says ∙ sym (b .says)), a .stored ∙ sym (b .stored))
+  where
+    injective : (x y : Grouped) → group.told x ≡ group.told y → x ≡ y
+    injective (grouped.Numbers m) (grouped.Numbers p) e = let h : m ≡ p = cc in rw h
+    injective (grouped.Numbers m) grouped.Misfit e = absurd (let z : _≡_ {A = ℕ} 0 1 = cc in omega arith)
+    injective grouped.Misfit (grouped.Numbers p) e = absurd (let z : _≡_ {A = ℕ} 0 1 = cc in omega arith)
+    injective grouped.Misfit grouped.Misfit e = refl

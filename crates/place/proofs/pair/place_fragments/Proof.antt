@@ -1,0 +1,32 @@
+use Rattle.place.proofs.PairLaws.{processing}
+use Rattle.place.proofs.pair.place_fragments.Statement.{statement}
+use Rattle.place.proofs.pair.place_fragments.Tie as tie
+
+work-line-requires : tie.Need-work-line-requires
+work-line-requires c κs = (search processing, (search processing, (search processing, (search processing, search processing, search processing))))
+
+place-worked-requires : tie.Need-place-worked-requires
+place-worked-requires c κs = (search processing, (search processing, (search processing, search processing)))
+
+same-length : tie.Need-same-length
+same-length c = search processing
+
+same-length-2 : tie.Need-same-length-2
+same-length-2 c = search processing
+
+same-length-3 : tie.Need-same-length-3
+same-length-3 c = search processing
+
+returns : tie.Need-returns
+returns c = search processing
+
+pub place-fragments-spec : {M : Type 1} → statement M
+place-fragments-spec =
+    tie.close
+    (tie.spec
+    work-line-requires
+    place-worked-requires
+    same-length
+    same-length-2
+    same-length-3
+    returns)

@@ -1,0 +1,19 @@
+use Rattle.place.proofs.PassLaws.{numbers}
+use Rattle.place.proofs.pass.pair_rows.Statement.{statement}
+use Rattle.place.proofs.pass.pair_rows.Tie as tie
+
+with-numbers-requires : tie.Need-with-numbers-requires
+with-numbers-requires c κs = search numbers
+
+checked-rows-requires : tie.Need-checked-rows-requires
+checked-rows-requires c κs = (search numbers, (search numbers, (search numbers, search numbers)))
+
+same-length : tie.Need-same-length
+same-length c = search numbers
+
+returns : tie.Need-returns
+returns c = search numbers
+
+pub pair-rows-spec : {M : Type 1} → statement M
+pair-rows-spec =
+    tie.close (tie.spec with-numbers-requires checked-rows-requires same-length returns)

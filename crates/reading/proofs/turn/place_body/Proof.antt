@@ -1,0 +1,65 @@
+use Rattle.reading.proofs.GroupTwo.{body-made}
+use Rattle.reading.proofs.GroupTwo.{bodies}
+use Rattle.reading.proofs.turn.place_body.Statement.{statement}
+use Rattle.reading.proofs.turn.place_body.Tie as tie
+
+enum-known-s : tie.Need-enum-known-s
+enum-known-s c = search bodies
+
+enum-told : tie.Need-enum-told
+enum-told c = search bodies
+
+standing-in-requires : tie.Need-standing-in-requires
+standing-in-requires c κs = search bodies
+
+after-requires : tie.Need-after-requires
+after-requires c κs = search bodies
+
+returns : tie.Need-returns
+returns c = search bodies
+
+filled-of-requires : tie.Need-filled-of-requires
+filled-of-requires c κs = search bodies
+
+place-pair-requires : tie.Need-place-pair-requires
+place-pair-requires c κs = search bodies
+
+standing-of-requires : tie.Need-standing-of-requires
+standing-of-requires c κs = search bodies
+
+standing-in-requires-2 : tie.Need-standing-in-requires-2
+standing-in-requires-2 c κs = search bodies
+
+after-requires-2 : tie.Need-after-requires-2
+after-requires-2 c κs = search bodies
+
+same-length : tie.Need-same-length
+same-length c = search bodies
+
+same-length-2 : tie.Need-same-length-2
+same-length-2 c = search bodies
+
+same-length-3 : tie.Need-same-length-3
+same-length-3 c = search bodies
+
+returns-2 : tie.Need-returns-2
+returns-2 c = let p = c .before .before .before .before .before .before .before .before .before in let q = p .before .before .before .before .before .before .before .before in let s = q .before .before in let a = s .before .before .before .before .before .before .before in body-made (a .pre) _ _ _ _ _ _ (s .s .given .1) (q .filled-of .ensures) (p .place-pair .ensures) (c .before .before .standing-of .ensures) (c .before .standing-in2 .ensures) (c .after2 .ensures)
+
+pub place-body-spec : {M : Type 1} → statement M
+place-body-spec =
+    tie.close
+    (tie.spec
+    enum-known-s
+    enum-told
+    standing-in-requires
+    after-requires
+    returns
+    filled-of-requires
+    place-pair-requires
+    standing-of-requires
+    standing-in-requires-2
+    after-requires-2
+    same-length
+    same-length-2
+    same-length-3
+    returns-2)

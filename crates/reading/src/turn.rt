@@ -1,0 +1,129 @@
+// One turn of group two: the pair at a place read, counted and placed; refusals 10 to 13.
+ghost use mathlib.Core.Path.{_≡_};
+ghost use Prim.Native.Nat.{_≤_};
+ghost use lib.ListN.{length};
+ghost use Rattle.mode.specs.Class.{classTable};
+ghost use Rattle.text.specs.Told.{formOf};
+ghost use Rattle.reading.specs.Onward.{standingOf, filledOf, Ready, PlaceReady, Columns, Advances, TurnIs, onwardAt};
+use crate::pair::pair_step;
+use crate::plan::Going;
+use crate::plan::Plan;
+use crate::plan::Standing;
+use crate::plan::Turn;
+use crate::plan::after;
+use crate::plan::plan_of;
+use crate::plan::standing_in;
+use crate::plan::turn_of;
+use place::Filled;
+use place::Line;
+use place::Placed;
+use text::Form;
+
+// How placing stands after a pair.
+fn standing_of(r: Placed) -> Standing
+    ensures { λ s. ⌜ s ≡ standingOf r ⌝ }
+{
+    match r {
+        Placed::Done(k) => Standing::Made { fixups: k },
+        Placed::Stopped(n, p) => Standing::Kept {
+            number: n,
+            place: p,
+        },
+        Placed::Misfit => Standing::Kept {
+            number: 0,
+            place: 0,
+        },
+    }
+}
+
+// How many rows there are.
+fn filled_of(g: Going, fixups: usize) -> Filled
+    ensures { λ r. ⌜ r ≡ filledOf g fixups ⌝ }
+{
+    Filled {
+        areas: g.areas,
+        symbols: g.symbols,
+        fixups: fixups,
+    }
+}
+
+// A pair placed, if no refusal is kept.
+fn place_body(
+    line: Line,
+    going: Going,
+    table: &[u8; 2048],
+    bytes: &[u8; 256],
+    ms: &[u32; 64],
+    es: &[u32; 64],
+    xs: &[u32; 64],
+    areas: &[u32],
+    symbols: &[u32],
+    values: &mut [u8],
+    masks: &mut [u8],
+    rows: &mut [u32],
+) -> Turn
+    requires { ⌜ PlaceReady line going (now table) (now bytes) (now areas) (now rows) ⌝ }
+    ensures { λ r. ⌜ Advances line going (now (bytes .entry)) (now (ms .entry)) (now (es .entry)) (now (xs .entry)) (now (areas .entry)) (now (symbols .entry)) (now (values .entry)) (now (masks .entry)) (now (rows .entry)) r (now (values .exit)) (now (masks .exit)) (now (rows .exit)) ⌝ }
+{
+    let s = going.standing;
+    let Standing::Made { fixups } = s else {
+        return after(standing_in(going, s));
+    };
+    let filled = filled_of(going, fixups);
+    let r = place::place_pair(
+        table,
+        line,
+        bytes,
+        ms,
+        es,
+        xs,
+        areas,
+        symbols,
+        filled,
+        values,
+        masks,
+        rows,
+    );
+    after(standing_in(going, standing_of(r)))
+}
+
+// One turn: the pair at the place where group two is. What was lent for its bytes and fragments may hold those of the pair before.
+pub(crate) fn take_turn(
+    t: &[u8],
+    g: Going,
+    form: Form,
+    ended: bool,
+    table: &[u8; 2048],
+    areas: &[u32],
+    symbols: &[u32],
+    bs: &mut [u8; 256],
+    ms: &mut [u32; 64],
+    es: &mut [u32; 64],
+    xs: &mut [u32; 64],
+    values: &mut [u8],
+    masks: &mut [u8],
+    rows: &mut [u32],
+) -> Turn
+    requires { ⌜ (Ready (now t) (now areas) g) × (length (now t) ≤ 65536) × (now table ≡ classTable) × (9216 ≤ length (now rows)) × (Columns (now bs) (now ms) (now es) (now xs)) ⌝ }
+    ensures { λ r. ⌜ (TurnIs ended (formOf form) (now (t .entry)) (now (areas .entry)) (now (symbols .entry)) (g .next) (onwardAt ended (formOf form) (now (t .entry)) (now (areas .entry)) (now (symbols .entry)) g (now (values .entry)) (now (masks .entry)) (now (rows .entry))) r (now (values .exit)) (now (masks .exit)) (now (rows .exit))) × (Columns (now (bs .exit)) (now (ms .exit)) (now (es .exit)) (now (xs .exit))) ⌝ }
+{
+    let step = pair_step(t, g.next, form, ended, bs, ms, es, xs);
+    let plan = plan_of(step, g, form);
+    let Plan::Place { line, going } = plan else {
+        return turn_of(plan);
+    };
+    place_body(
+        line,
+        going,
+        table,
+        bs,
+        ms,
+        es,
+        xs,
+        areas,
+        symbols,
+        values,
+        masks,
+        rows,
+    )
+}
