@@ -244,7 +244,7 @@ pub record Counted (l : Line) (n : Filled) (lent room : ℕ) : Type 0 where
   pub fixups : n .fixups ≤ 1024
   pub space : 9216 ≤ room
 
-counted : (l : Line) (n : Filled) (lent room : ℕ) → (lineFits l lent && filledFits n room) ≡ true → Counted l n lent room
+pub counted : (l : Line) (n : Filled) (lent room : ℕ) → (lineFits l lent && filledFits n room) ≡ true → Counted l n lent room
 unfolding lineFits filledFits
 counted l n lent room h =
     let a = both-true (lineFits l lent) (filledFits n room) h in

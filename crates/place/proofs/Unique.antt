@@ -6,8 +6,6 @@ use mathlib.Core.Bool.{Bool, true, false, _&&_}
 use mathlib.Core.List.{List, _++_}
 use mathlib.Core.Option.{none, some}
 use native.Mathlib.Omega.{arith}
-use lib.Dec.{leb}
-use borrow.Author.Tests.{leb-true}
 use lib.ListN.{length, take, drop, take-append-drop}
 use Rattle.format.specs.Lists.{pick, flat}
 use Rattle.format.specs.Outcome.{Outcome, fine}
@@ -27,6 +25,7 @@ use Rattle.place.specs.declared.group.Grouped.{Grouped}
 use Rattle.place.specs.declared.group.Grouped.the-variants as grouped
 use Rattle.place.proofs.NamedLaws.{both-true}
 use Rattle.place.proofs.RowLaws.{count-rows, rows-numbers}
+use Rattle.place.proofs.PairLaws.{counted}
 
 -- the decoded rows fix every number of as many rows
 pub rows-fixed : (xs ys : List ℕ) (j k : ℕ) → 9 * j ≤ length xs → 9 * k ≤ length ys → fixupsIn xs j ≡ fixupsIn ys k → (j ≡ k) × (take (9 * j) xs ≡ take (9 * k) ys)
@@ -118,14 +117,9 @@ module _ (fit : Bool) (o : (radix end : ℕ) → Outcome State) (vs ms rows : Li
 
 -- rows that fit have room for the bound
 fits-room : (table : List ℕ) (l : Line) (bs ms areas : List ℕ) (n : Filled) (rows : List ℕ) → fits table l bs ms areas n rows ≡ true → 9216 ≤ length rows
-unfolding fits filledFits
+unfolding fits
 fits-room table l bs ms areas n rows e =
-    let a = both-true (lineFits l (length bs) && filledFits n (length rows)) _ e in
-    let b = both-true (lineFits l (length bs)) (filledFits n (length rows)) (a .0) in
-    let c = both-true (leb (n .areas) 64) _ (b .1) in
-    let d = both-true (leb (n .symbols) 1024) _ (c .1) in
-    let f = both-true (leb (n .fixups) 1024) _ (d .1) in
-    leb-true 9216 (length rows) (f .1)
+    counted l n (length bs) (length rows) (both-true (lineFits l (length bs) && filledFits n (length rows)) _ e .0) .space
 
 -- `place_pair`: a lent buffer keeps its length
 pub one-pair : (table : List ℕ) (l : Line) (bs ms areas : List ℕ) (n : Filled) (o : (radix end : ℕ) → Outcome State) (vs masks rows : List ℕ) (r q : Placed) (vs₁ ms₁ rows₁ vs₂ ms₂ rows₂ : List ℕ)

@@ -1,24 +1,21 @@
--- For a caller of `place_pair` and `by_area`: when a pair fits, and what an answer says then.
+-- For a caller of `place_pair`: when a pair fits.
 -- Assumes nothing.
 use Prim.Native.Nat.{ℕ, _+_, _≤_}
 use mathlib.Core.Path.{_≡_, refl}
-use mathlib.Core.Bool.{Bool, true}
+use mathlib.Core.Bool.{true}
 use mathlib.Core.List.{List}
 use mathlib.Core.Option.{Option, none, some}
 use native.Mathlib.Omega.{arith}
 use lib.ListN.{length, take, drop}
 use borrow.Author.Tests.{le-leb}
-use Rattle.format.specs.Outcome.{Outcome, fine, refused}
 use Rattle.format.specs.Tables.{Area, total, rank, offset}
-use Rattle.format.specs.Placing.{State, extent}
-use Rattle.laws.specs.Rows.{areasIn, stateOf}
+use Rattle.format.specs.Placing.{extent}
+use Rattle.laws.specs.Rows.{areasIn}
 use Rattle.mode.specs.Class.{classTable}
 use Rattle.place.specs.declared.pair.Line.{Line}
 use Rattle.place.specs.declared.pair.Filled.{Filled}
-use Rattle.place.specs.declared.pair.Placed.{Placed}
-use Rattle.place.specs.declared.pair.Placed.the-variants.{Done, Stopped, Misfit}
 use Rattle.place.specs.Site.{lineFits, filledFits, imageFits}
-use Rattle.place.specs.Pair.{keptFits, fits, PairPlaced}
+use Rattle.place.specs.Pair.{keptFits, fits}
 use Rattle.place.proofs.NamedLaws.{table-names}
 use Rattle.place.proofs.SiteLaws.{total-two}
 
@@ -58,14 +55,3 @@ fits-when {table} {l} {bs} {areas} {n} {rows} f ms =
       le-leb 9216 (length rows) (f .room),
       kept-fits table ms (areasIn areas (n .areas)) l (f .classes) (f .sizes) (rank 0 (areasIn areas (n .areas)) (l .area)),
     )
-
--- and an answer says what the definition says
-module _ {fit : Bool} {o : (radix end : ℕ) → Outcome State} {vs ms rows : List ℕ} {r : Placed} {vs′ ms′ rows′ : List ℕ} (p : PairPlaced fit o vs ms rows r vs′ ms′ rows′) (h : fit ≡ true) where
-  pub pair-is-done : {k : ℕ} → r ≡ Done k → (radix end : ℕ) → o radix end ≡ fine (stateOf vs′ ms′ rows′ k)
-  pair-is-done {k} g radix end = let e : some (fine (stateOf vs′ ms′ rows′ k)) ≡ some (o radix end) = rw (g, h) at (p .says radix end) in cc
-
-  pub pair-is-refused : {n q : ℕ} → r ≡ Stopped n q → (radix end : ℕ) → o radix end ≡ refused n q
-  pair-is-refused {n} {q} g radix end = let e : some (refused n q) ≡ some (o radix end) = rw (g, h) at (p .says radix end) in cc
-
-  pub pair-is-no-misfit : r ≡ Misfit → ⊥
-  pair-is-no-misfit g = let e : none ≡ some (o 0 0) = rw (g, h) at (p .says 0 0) in let z : _≡_ {A = ℕ} 0 1 = cc in omega arith

@@ -3,7 +3,6 @@ use crate::site::Site;
 use cells::byte_at;
 use cells::put;
 use cells::wide;
-ghost use mathlib.Core.Path.{_≡_};
 ghost use Prim.Native.Nat.{_<_, _+_};
 ghost use lib.ListN.{getD};
 ghost use Rattle.place.specs.Walk.{Ready};

@@ -19,7 +19,6 @@ ghost use lib.ListN.{length, take, replicate, getD};
 ghost use Rattle.format.specs.Mode.{touchedOf};
 ghost use Rattle.format.specs.WorkLine.{padded};
 ghost use Rattle.mode.specs.Class.{toldClass};
-ghost use Rattle.place.specs.Columns.{fragmentAt};
 ghost use Rattle.place.specs.Named.{Named, NamedAt};
 ghost use Rattle.place.specs.Work.{Short, lineOf, allTurns, Applied, Turned, Whole};
 ghost use Rattle.place.specs.Pair.{Prepared};

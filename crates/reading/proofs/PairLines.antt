@@ -29,7 +29,7 @@ use Rattle.line.specs.declared.RelocationLine.{RelocationLine}
 use Rattle.line.specs.declared.RelocationLine.the-variants.{Relocation, NoRelocation}
 use Rattle.line.proofs.Laws.Content.{content-is, content-count, content-isnt, whole-is}
 use Rattle.line.proofs.Laws.Relocations.{relocation-is, relocation-count, relocation-isnt}
-use Rattle.reading.specs.PairLines.{none, upto, caseOf, lineOf, AsLong, BodyIs, PairSays, PairIs, StepSays, PairStepIs, UsedBounds, UsedIn, stepFrom}
+use Rattle.reading.specs.PairLines.{none, caseOf, lineOf, AsLong, BodyIs, PairSays, PairIs, StepSays, PairStepIs, UsedBounds, UsedIn, stepFrom}
 use Rattle.reading.specs.declared.pair.Body.{Body}
 use Rattle.reading.specs.declared.pair.Body.the-variants.{Skipped, Placed}
 use Rattle.reading.specs.declared.pair.PairLine.{PairLine}
@@ -48,13 +48,6 @@ pub any-2 : (s : List ℕ) (b : ℕ) {a : ℕ} → a ≡ getD s 0 0 → (a ≡ b
 any-2 s b e h = rw (ne-eqb (getD s 0 0) b (λ x. h (e ∙ x)))
 
 -- `skipped_pair`
-any-case : (s : List ℕ) (b : ℕ) (t u : Bool) → eqb (getD s 0 0) b ≡ t → leb 2 (length s) ≡ u
-    → caseOf (letterAndMore (λ x. eqb x b) the.skipped s 0) ≡ pick (t && u) (upto (length s)) none
-unfolding letterAndMore
-any-case s b true true e f = rw (e, f)
-any-case s b true false e f = rw (e, f)
-any-case s b false u e f = rw e
-
 -- the answer is the pair that is skipped, or none
 module _ (s : List ℕ) (b : ℕ) {t : Bool} (e : t ≡ (eqb (getD s 0 0) b && leb 2 (length s))) where
   any-is : t ≡ true → letterAndMore (λ x. eqb x b) the.skipped s 0 ≡ is the.skipped (length s)

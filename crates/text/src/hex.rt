@@ -38,7 +38,7 @@ pub(crate) fn two_digits(t: &[u8], at: usize) -> u64
 }
 
 // A byte of two digits, or 256.
-pub fn short_byte(t: &[u8], at: usize, radix: u8) -> u64
+pub(crate) fn short_byte(t: &[u8], at: usize, radix: u8) -> u64
     ensures { λ r. ⌜ Short radix (now (t .entry)) at r ⌝ }
 {
     if radix != 16 {
@@ -54,7 +54,7 @@ pub fn short_byte(t: &[u8], at: usize, radix: u8) -> u64
 }
 
 // A byte of two digits behind one space, or 256.
-pub fn spaced_byte(t: &[u8], at: usize, radix: u8) -> u64
+pub(crate) fn spaced_byte(t: &[u8], at: usize, radix: u8) -> u64
     ensures { λ r. ⌜ Spaced radix (now (t .entry)) at r ⌝ }
 {
     if radix != 16 {

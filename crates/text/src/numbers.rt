@@ -114,7 +114,7 @@ pub fn parse_byte(t: &[u8], at: usize, radix: u8) -> Num
 }
 
 // Any number of blanks, at least one, and a byte of any length.
-pub fn any_next(t: &[u8], at: usize, radix: u8) -> Num
+pub(crate) fn any_next(t: &[u8], at: usize, radix: u8) -> Num
     ensures { λ r. ⌜ told r ≡ nextByte radix (now (t .entry)) at ⌝ }
 {
     let a = past_kind(t, at, Kind::Blank);

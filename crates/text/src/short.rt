@@ -5,7 +5,7 @@ use crate::hex::two_digits;
 use crate::joined::join_step;
 
 // Two bytes as one number, or 65536 where anything else stands there.
-pub fn short_two(t: &[u8], at: usize, radix: u8, big: bool) -> u64
+pub(crate) fn short_two(t: &[u8], at: usize, radix: u8, big: bool) -> u64
     ensures { λ r. ⌜ Joins radix big 1 (now (t .entry)) at (at + 5) 65536 r ⌝ }
 {
     if radix != 16 {
@@ -32,7 +32,7 @@ pub fn short_two(t: &[u8], at: usize, radix: u8, big: bool) -> u64
 }
 
 // Three bytes as one number, or 2^24 where anything else stands there.
-pub fn short_three(t: &[u8], at: usize, radix: u8, big: bool) -> u64
+pub(crate) fn short_three(t: &[u8], at: usize, radix: u8, big: bool) -> u64
     ensures { λ r. ⌜ Joins radix big 2 (now (t .entry)) at (at + 8) 16777216 r ⌝ }
 {
     if radix != 16 {
