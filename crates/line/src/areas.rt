@@ -1,8 +1,8 @@
 // The A line: `A name size N flags N`, and perhaps ` addr N`.
 ghost use mathlib.Core.Path.{_≡_};
 ghost use Rattle.format.specs.Got.{is, optional};
-ghost use Rattle.format.specs.Entries.{field, spelled, addr as addrKey, areaOf, areaLine};
-ghost use Rattle.text.specs.Told.{formOf};
+ghost use Rattle.format.specs.Entries.{field, spelled, size as sizeKey, flags as flagsKey, addr as addrKey, areaOf, areaLine};
+ghost use Rattle.text.specs.Told.{told, formOf};
 ghost use Rattle.line.specs.Told.{nameOf, addrOf, toldEntry};
 use crate::Addr;
 use crate::Entry;
@@ -11,6 +11,8 @@ use crate::entries::halted;
 use crate::fields::NameAt;
 use crate::fields::field_at;
 use crate::fields::title;
+use crate::usual::usual_flags;
+use crate::usual::usual_four;
 use text::Form;
 use text::Kind;
 use text::Num;
@@ -21,11 +23,41 @@ struct AddrAt {
     next: usize,
 }
 
+// ` size N`. The usual form is read at once.
+fn size_field(t: &[u8], at: usize, radix: u8) -> Num
+    ensures { λ r. ⌜ told r ≡ field (spelled sizeKey) radix (now (t .entry)) at ⌝ }
+{
+    if usual_four(t, at, b's', b'i', b'z', b'e') {
+        return text::parse_number(t, at + 6, radix);
+    }
+    field_at(t, at, b"size", radix)
+}
+
+// ` flags N`, likewise.
+fn flags_field(t: &[u8], at: usize, radix: u8) -> Num
+    ensures { λ r. ⌜ told r ≡ field (spelled flagsKey) radix (now (t .entry)) at ⌝ }
+{
+    if usual_flags(t, at) {
+        return text::parse_number(t, at + 7, radix);
+    }
+    field_at(t, at, b"flags", radix)
+}
+
+// ` addr N`, likewise.
+fn addr_field(t: &[u8], at: usize, radix: u8) -> Num
+    ensures { λ r. ⌜ told r ≡ field (spelled addrKey) radix (now (t .entry)) at ⌝ }
+{
+    if usual_four(t, at, b'a', b'd', b'd', b'r') {
+        return text::parse_number(t, at + 6, radix);
+    }
+    field_at(t, at, b"addr", radix)
+}
+
 // ` addr N` where it can be read; else no byte is used.
 fn addr_at(t: &[u8], at: usize, radix: u8) -> AddrAt
     ensures { λ r. ⌜ is (addrOf (r .addr)) (r .next) ≡ optional (field (spelled addrKey) radix) (now (t .entry)) at ⌝ }
 {
-    match field_at(t, at, b"addr", radix) {
+    match addr_field(t, at, radix) {
         Num::Is { value, next } => AddrAt {
             addr: Addr::Given { addr: value },
             next: next,
@@ -42,7 +74,7 @@ fn area_of(t: &[u8], at: usize, form: Form, name: usize, len: usize) -> EntryLin
     ensures { λ r. ⌜ toldEntry r ≡ areaOf (formOf form) (nameOf name len) (now (t .entry)) at ⌝ }
 {
     let radix = form.radix;
-    let z = field_at(t, at, b"size", radix);
+    let z = size_field(t, at, radix);
     let Num::Is {
         value: size,
         next: a,
@@ -50,7 +82,7 @@ fn area_of(t: &[u8], at: usize, form: Form, name: usize, len: usize) -> EntryLin
     else {
         return halted(z);
     };
-    let g = field_at(t, a, b"flags", radix);
+    let g = flags_field(t, a, radix);
     let Num::Is {
         value: flags,
         next: b,

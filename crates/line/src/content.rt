@@ -8,13 +8,18 @@ ghost use Rattle.line.specs.Pairs.{Contents, toldContent};
 use crate::ContentLine;
 use crate::Place;
 use crate::fields::lead_at;
+use crate::usual::usual_letter;
 use text::Form;
 use text::Num;
 
-// T, and the address.
+// T, and the address. The usual form is read at once.
 fn address_part(t: &[u8], form: Form) -> Num
     ensures { λ r. ⌜ told r ≡ addressPart (formOf form) (now (t .entry)) 0 ⌝ }
 {
+    if usual_letter(t, b'T') {
+        let width = form.width;
+        return text::parse_multi_number(t, 2, form.radix, form.big, width);
+    }
     match lead_at(t, 0, b"T") {
         Place::Not { reason, at } => Num::No {
             reason: reason,

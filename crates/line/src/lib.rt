@@ -9,6 +9,7 @@ mod ignored;
 mod modes;
 mod relocations;
 mod symbols;
+mod usual;
 
 pub use areas::parse_area;
 pub use content::parse_content;

@@ -8,6 +8,7 @@ use crate::RelocationLine;
 use crate::fields::lead_at;
 use crate::fragments::next_index;
 use crate::fragments::parse_reloc_frag;
+use crate::usual::usual_zero;
 use text::Form;
 use text::Kind;
 use text::Num;
@@ -29,10 +30,13 @@ fn zero_index(t: &[u8], at: usize, radix: u8, big: bool) -> Num
     Num::No { reason: 4, at: at }
 }
 
-// R, index 0, the area's index.
+// R, index 0, the area's index. The usual form is read at once.
 fn area_part(t: &[u8], form: Form) -> Num
     ensures { λ r. ⌜ told r ≡ areaPart (formOf form) (now (t .entry)) 0 ⌝ }
 {
+    if usual_zero(t, form.radix) {
+        return text::parse_area_index(t, 8, form.radix, form.big);
+    }
     match lead_at(t, 0, b"R") {
         Place::Not { reason, at } => Num::No {
             reason: reason,

@@ -20,38 +20,57 @@ use Rattle.mode.specs.declared.row.Row.{Row}
 use Rattle.mode.specs.declared.step.Step.{Step}
 use Rattle.mode.specs.declared.step.Step.the-variants.{Number, Short}
 use Rattle.mode.specs.Row.{rowOf}
-use Rattle.mode.specs.Step.{Laid, Lain, Modified, Room, cell, fits, opcodeOf}
+use Rattle.mode.specs.Step.{Laid, LaidAt, Laying, TwoLaid, Lain, Modified, Room, cell, fits, opcodeOf}
 
--- the first i entries are laid, and the others are as they were
-pub record Laying (op mask size t : ℕ) (vs ms ks vs′ ms′ ks′ : List ℕ) (i : ℕ) : Type 0 where
-  pub room : Room t vs ms ks
-  pub within : i ≤ t
-  pub cells : Lain op mask size i vs ms ks vs′ ms′ ks′
-  pub values : length vs′ ≡ length vs
-  pub masks : length ms′ ≡ length ms
-  pub keeps : length ks′ ≡ length ks
+-- `lay_one`
+pub laid-at : (op mask size i : ℕ) (vs ms ks : List ℕ) {v m k : ℕ} → v ≡ cell 1 op i → m ≡ cell 1 mask i → k ≡ cell size 1 i → LaidAt op mask size i vs ms ks (set vs i v) (set ms i m) (set ks i k)
+laid-at op mask size i vs ms ks ev em ek = record { values = rw ev; masks = rw em; keeps = rw ek }
 
-pub lays-none : (op mask size : ℕ) {t : ℕ} {vs ms ks : List ℕ} → Room t vs ms ks → Laying op mask size t vs ms ks vs ms ks 0
-lays-none op mask size h = record { room = h; within = omega arith; cells = record { values = refl; masks = refl; keeps = refl }; values = refl; masks = refl; keeps = refl }
-
+-- `lay`
 module _ {op mask size t : ℕ} {vs ms ks vs′ ms′ ks′ : List ℕ} {i : ℕ} (l : Laying op mask size t vs ms ks vs′ ms′ ks′ i) where
-  pub lays-one-more : {v m k : ℕ} → i < t → v ≡ cell 1 op i → m ≡ cell 1 mask i → k ≡ cell size 1 i
-      → Laying op mask size t vs ms ks (set vs′ i v) (set ms′ i m) (set ks′ i k) (i + 1)
-  lays-one-more {v} {m} {k} h ev em ek = record {
+  lays-one-more : {vs″ ms″ ks″ : List ℕ} → i < t → LaidAt op mask size i vs′ ms′ ks′ vs″ ms″ ks″ → Laying op mask size t vs ms ks vs″ ms″ ks″ (i + 1)
+  lays-one-more h d = record {
     room = l .room;
     within = omega arith;
     cells = record {
-      values = over-step (cell 1 op) i vs vs′ v (l .cells .values) ev (omega (arith, l .room .values));
-      masks = over-step (cell 1 mask) i ms ms′ m (l .cells .masks) em (omega (arith, l .room .masks));
-      keeps = over-step (cell size 1) i ks ks′ k (l .cells .keeps) ek (omega (arith, l .room .keeps));
+      values = d .values ∙ over-step (cell 1 op) i vs vs′ (cell 1 op i) (l .cells .values) refl (omega (arith, l .room .values));
+      masks = d .masks ∙ over-step (cell 1 mask) i ms ms′ (cell 1 mask i) (l .cells .masks) refl (omega (arith, l .room .masks));
+      keeps = d .keeps ∙ over-step (cell size 1) i ks ks′ (cell size 1 i) (l .cells .keeps) refl (omega (arith, l .room .keeps));
     };
-    values = simp length-set (l .values);
-    masks = simp length-set (l .masks);
-    keeps = simp length-set (l .keeps);
   }
 
-  pub lays-all : t ≤ i → Lain op mask size t vs ms ks vs′ ms′ ks′
+  lays-all : t ≤ i → Lain op mask size t vs ms ks vs′ ms′ ks′
   lays-all h = let all : i ≡ t = omega (arith, l .within) in rw all at (l .cells)
+
+-- `lay_two`
+module _ {op mask size i t : ℕ} {vs ms ks vs₁ ms₁ ks₁ : List ℕ} (h : i < t) (d₁ : LaidAt op mask size i vs ms ks vs₁ ms₁ ks₁) where
+  pub two-first : t ≤ i + 1 → TwoLaid op mask size i t vs ms ks vs₁ ms₁ ks₁
+  two-first e = record { more = λ l. let z : i + 1 ≡ min t (i + 2) = omega arith in rw z at (lays-one-more l h d₁) }
+
+  pub two-both : i + 1 < t → {vs₂ ms₂ ks₂ : List ℕ} → LaidAt op mask size (i + 1) vs₁ ms₁ ks₁ vs₂ ms₂ ks₂ → TwoLaid op mask size i t vs ms ks vs₂ ms₂ ks₂
+  two-both e d₂ = record { more = λ l. let z : i + 1 + 1 ≡ min t (i + 2) = omega arith in rw z at (lays-one-more (lays-one-more l h d₁) e d₂) }
+
+-- parts as long as before have room for the next entry
+pub room-one : {t i : ℕ} {vs ms ks : List ℕ} → Room t vs ms ks → i < t → Room (i + 1) vs ms ks
+room-one h l = record { values = omega (arith, h .values); masks = omega (arith, h .masks); keeps = omega (arith, h .keeps) }
+
+pub room-still : {t : ℕ} {vs ms ks vs′ ms′ ks′ : List ℕ} → Room t vs ms ks → length vs′ ≡ length vs → length ms′ ≡ length ms → length ks′ ≡ length ks → Room t vs′ ms′ ks′
+room-still h a b c = record { values = omega (arith, h .values); masks = omega (arith, h .masks); keeps = omega (arith, h .keeps) }
+
+pub ruleset laying-two = (needs, two-first, two-both, room-one, room-still)
+
+-- `lay`
+module _ {op mask size t : ℕ} {vs ms ks vs₁ ms₁ ks₁ : List ℕ} (h : Room t vs ms ks) (d : TwoLaid op mask size 0 t vs ms ks vs₁ ms₁ ks₁) where
+  begun : Laying op mask size t vs ms ks vs ms ks 0
+  begun = record { room = h; within = omega arith; cells = record { values = refl; masks = refl; keeps = refl } }
+
+  pub lays-two : t ≤ 2 → Lain op mask size t vs ms ks vs₁ ms₁ ks₁
+  lays-two e = lays-all (d .more begun) (omega arith)
+
+  pub lays-four : t ≤ 4 → {vs₂ ms₂ ks₂ : List ℕ} → 2 < t → TwoLaid op mask size 2 t vs₁ ms₁ ks₁ vs₂ ms₂ ks₂ → Lain op mask size t vs ms ks vs₂ ms₂ ks₂
+  lays-four e g k = let z : min t 2 ≡ 2 = omega arith in lays-all (k .more (rw z at (d .more begun))) (omega arith)
+
+pub ruleset laying = (needs, lays-two, lays-four, room-still)
 
 pub room : {t : ℕ} {vs ms ks : List ℕ} → t ≤ length vs → t ≤ length ms → t ≤ length ks → Room t vs ms ks
 room hv hm hk = record { values = hv; masks = hm; keeps = hk }
@@ -115,17 +134,17 @@ keeps-by Byte three ks = refl
 keeps-by Other true ks = refl
 keeps-by Other false ks = refl
 
-pub touches-one : (c : Class) (three : Bool) {t : ℕ} → t ≡ touchedOf c three → 1 ≤ t
-touches-one c three e = rw e (go c three)
+pub touches : (c : Class) (three : Bool) {t : ℕ} → t ≡ touchedOf c three → (1 ≤ t) × (t ≤ 4)
+touches c three e = rw e (go c three)
   where
-    go : (c : Class) (three : Bool) → 1 ≤ touchedOf c three
-    go Addr19 three = lit≤ tt
-    go Addr11 three = lit≤ tt
-    go Addr24 three = lit≤ tt
-    go Addr16 three = lit≤ tt
-    go Byte three = lit≤ tt
-    go Other true = lit≤ tt
-    go Other false = lit≤ tt
+    go : (c : Class) (three : Bool) → (1 ≤ touchedOf c three) × (touchedOf c three ≤ 4)
+    go Addr19 three = (lit≤ tt, lit≤ tt)
+    go Addr11 three = (lit≤ tt, lit≤ tt)
+    go Addr24 three = (lit≤ tt, lit≤ tt)
+    go Addr16 three = (lit≤ tt, lit≤ tt)
+    go Byte three = (lit≤ tt, lit≤ tt)
+    go Other true = (lit≤ tt, lit≤ tt)
+    go Other false = (lit≤ tt, lit≤ tt)
 
 -- the answers: a part that is too short, or the step
 module _ (c : Class) (three big : Bool) (vs ms ks : List ℕ) {t : ℕ} (e : t ≡ touchedOf c three) where
@@ -185,4 +204,4 @@ module _ {c : Class} {three big : Bool} {vs ms ks vs′ ms′ ks′ : List ℕ} 
       let z : _≡_ {A = ℕ} 0 1 = cc in
       omega arith
 
-pub ruleset stepping = (needs, room, lays-none, lays-one-more, lays-all, cell-in, cell-out, opcode-stays, opcode-moves, laid, touches-one, short-values, short-masks, short-keeps, steps)
+pub ruleset stepping = (needs, room, laid-at, cell-in, cell-out, opcode-stays, opcode-moves, laid, touches, short-values, short-masks, short-keeps, steps)

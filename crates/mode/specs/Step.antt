@@ -1,12 +1,12 @@
 -- What the mode step does to a lent part of the work line: the lists at exit, and the answer.
 -- Assumes nothing.
-use Prim.Native.Nat.{ℕ, min, _-_, _≤_}
+use Prim.Native.Nat.{ℕ, min, _+_, _-_, _≤_}
 use mathlib.Core.Bool.{Bool, _&&_}
 use mathlib.Core.List.{List}
 use mathlib.Core.Option.{Option, none, some}
 use mathlib.Core.Path.{_≡_}
 use lib.Dec.{eqb, leb, ltb}
-use lib.ListN.{getD, length, take}
+use lib.ListN.{getD, length, set, take}
 use Rattle.format.specs.Lists.{pick}
 use Rattle.format.specs.Number.{join}
 use Rattle.format.specs.Mode.{Class, touchedOf}
@@ -30,11 +30,27 @@ pub record Room (t : ℕ) (vs ms ks : List ℕ) : Type 0 where
   pub masks : t ≤ length ms
   pub keeps : t ≤ length ks
 
--- the three lists at exit once t entries are laid
+-- the three lists at exit once the entry i is laid
+pub record LaidAt (op mask size i : ℕ) (vs ms ks vs′ ms′ ks′ : List ℕ) : Type 0 where
+  pub values : vs′ ≡ set vs i (cell 1 op i)
+  pub masks : ms′ ≡ set ms i (cell 1 mask i)
+  pub keeps : ks′ ≡ set ks i (cell size 1 i)
+
+-- and once t entries are
 pub record Lain (op mask size t : ℕ) (vs ms ks vs′ ms′ ks′ : List ℕ) : Type 0 where
   pub values : vs′ ≡ over (cell 1 op) t vs
   pub masks : ms′ ≡ over (cell 1 mask) t ms
   pub keeps : ks′ ≡ over (cell size 1) t ks
+
+-- the first i of t entries are laid, and the others are as they were
+pub record Laying (op mask size t : ℕ) (vs ms ks vs′ ms′ ks′ : List ℕ) (i : ℕ) : Type 0 where
+  pub room : Room t vs ms ks
+  pub within : i ≤ t
+  pub cells : Lain op mask size i vs ms ks vs′ ms′ ks′
+
+-- two more of them are laid, or one where it is the last
+pub record TwoLaid (op mask size i t : ℕ) (vs ms ks vs′ ms′ ks′ : List ℕ) : Type 0 where
+  pub more : {vs₀ ms₀ ks₀ : List ℕ} → Laying op mask size t vs₀ ms₀ ks₀ vs ms ks i → Laying op mask size t vs₀ ms₀ ks₀ vs′ ms′ ks′ (min t (i + 2))
 
 -- the number r and the three lists at exit, by a row's numbers and the lists at entry
 pub record Laid (row : Row) (t : ℕ) (big : Bool) (r : ℕ) (vs ms ks vs′ ms′ ks′ : List ℕ) : Type 0 where

@@ -5,10 +5,10 @@ use crate::row::Row;
 use crate::row::row_of;
 use crate::row::touched;
 ghost use mathlib.Core.Path.{_≡_};
-ghost use Prim.Native.Nat.{_≤_};
+ghost use Prim.Native.Nat.{_+_, _≤_, _<_};
 ghost use lib.ListN.{length};
 ghost use Rattle.mode.specs.Class.{toldClass};
-ghost use Rattle.mode.specs.Step.{Laid, Lain, Modified, Room, cell, opcodeOf};
+ghost use Rattle.mode.specs.Step.{Laid, LaidAt, TwoLaid, Lain, Modified, Room, cell, opcodeOf};
 
 // The number that a step made, or that a lent part was too short for it.
 pub enum Step {
@@ -23,7 +23,47 @@ fn cell_at(k: usize, v: u8, i: usize) -> u8
     if i < k { v } else { 0 }
 }
 
-// Lays the first t entries: the opcode and its mask stand first with 0 behind them, and the first size entries are kept.
+// Lays the entry i.
+fn lay_one(
+    op: u8,
+    mask: u8,
+    size: usize,
+    i: usize,
+    values: &mut [u8],
+    masks: &mut [u8],
+    kept: &mut [u8],
+)
+    requires { ⌜ Room (i + 1) (now values) (now masks) (now kept) ⌝ }
+    ensures { λ _. ⌜ LaidAt op mask size i (now (values .entry)) (now (masks .entry)) (now (kept .entry)) (now (values .exit)) (now (masks .exit)) (now (kept .exit)) ⌝ }
+{
+    values[i] = cell_at(1, op, i);
+    masks[i] = cell_at(1, mask, i);
+    kept[i] = cell_at(size, 1, i);
+}
+
+// Lays the entries i and i + 1, as far as they are below t.
+fn lay_two(
+    op: u8,
+    mask: u8,
+    size: usize,
+    i: usize,
+    t: usize,
+    values: &mut [u8],
+    masks: &mut [u8],
+    kept: &mut [u8],
+)
+    requires { ⌜ (i < t) × (t ≤ 4) ⌝ }
+    requires { ⌜ Room t (now values) (now masks) (now kept) ⌝ }
+    ensures { λ _. ⌜ TwoLaid op mask size i t (now (values .entry)) (now (masks .entry)) (now (kept .entry)) (now (values .exit)) (now (masks .exit)) (now (kept .exit)) ⌝ }
+{
+    lay_one(op, mask, size, i, values, masks, kept);
+    if t <= i + 1 {
+        return;
+    }
+    lay_one(op, mask, size, i + 1, values, masks, kept);
+}
+
+// Lays the first t entries, four at most: the opcode and its mask stand first with 0 behind them, and the first size entries are kept. So few are quicker straight than in a loop.
 fn lay(
     op: u8,
     mask: u8,
@@ -33,16 +73,15 @@ fn lay(
     masks: &mut [u8],
     kept: &mut [u8],
 )
+    requires { ⌜ (1 ≤ t) × (t ≤ 4) ⌝ }
     requires { ⌜ Room t (now values) (now masks) (now kept) ⌝ }
     ensures { λ _. ⌜ Lain op mask size t (now (values .entry)) (now (masks .entry)) (now (kept .entry)) (now (values .exit)) (now (masks .exit)) (now (kept .exit)) ⌝ }
 {
-    let mut i: usize = 0;
-    while i < t {
-        values[i] = cell_at(1, op, i);
-        masks[i] = cell_at(1, mask, i);
-        kept[i] = cell_at(size, 1, i);
-        i += 1;
+    lay_two(op, mask, size, 0, t, values, masks, kept);
+    if t <= 2 {
+        return;
     }
+    lay_two(op, mask, size, 2, t, values, masks, kept);
 }
 
 // The opcode behind the joined values, where the class has a mask for it.
@@ -62,7 +101,7 @@ fn step_row(
     masks: &mut [u8],
     kept: &mut [u8],
 ) -> u32
-    requires { ⌜ 1 ≤ t ⌝ }
+    requires { ⌜ (1 ≤ t) × (t ≤ 4) ⌝ }
     requires { ⌜ Room t (now values) (now masks) (now kept) ⌝ }
     ensures { λ r. ⌜ Laid row t big r (now (values .entry)) (now (masks .entry)) (now (kept .entry)) (now (values .exit)) (now (masks .exit)) (now (kept .exit)) ⌝ }
 {

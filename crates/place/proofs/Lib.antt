@@ -10,7 +10,6 @@ pub mod PassLaws
 pub mod ImageLaws
 pub mod PlainLaws
 pub mod SiteLaws
-pub mod SpotLaws
 pub mod PairLaws
 pub mod PlainPairLaws
 pub mod GroupLaws

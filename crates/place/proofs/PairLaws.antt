@@ -12,17 +12,18 @@ use lib.Dec.{eqb, leb, ltb}
 use lib.ListN.{length, getD, set, take, replicate}
 use lib.Seq.{length-take-le}
 use borrow.Author.Needs.{needs}
-use borrow.Author.Tests.{leb-true, not-true, not-false}
+use borrow.Author.Tests.{eq-eqb, ne-eqb, leb-true, not-true, not-false}
 use Rattle.format.specs.Lists.{pick}
 use Rattle.format.specs.Header.{Form}
 use Rattle.format.specs.Pairs.{Fragment}
 use Rattle.format.specs.Outcome.{Outcome, fine, refused, andThen, fold}
-use Rattle.format.specs.Tables.{Area, rank, offset}
+use Rattle.format.specs.Tables.{lastIndex}
 use Rattle.format.specs.Fixups.{Fixup, fixupsAt}
-use Rattle.format.specs.Placing.{State, Walk, passedOver, write, walk, walkBy, placeAt, extent, placeLine, placePair}
+use Rattle.format.specs.Placing.{State, Walk, passedOver, write, walk, walkBy, placeAt}
 use Rattle.format.specs.WorkLine.{padded, workLine, beyond, inLine, stepAt, stepAll, fresh}
 use Rattle.format.specs.WorkLine as defs
-use Rattle.laws.specs.Rows.{areasIn, tablesIn, fixupsIn, stateOf}
+use Rattle.laws.specs.Rows.{fixupsIn, stateOf}
+use Rattle.homes.specs.declared.Home.{Home}
 use Rattle.place.specs.declared.pair.Line.{Line}
 use Rattle.place.specs.declared.pair.Filled.{Filled}
 use Rattle.place.specs.declared.pair.Placed.{Placed}
@@ -42,7 +43,7 @@ use Rattle.place.specs.Check.{tablesOf}
 use Rattle.place.specs.Walk.{madeAt, siteOf, fixupsWalk, lineAt, Settled}
 use Rattle.place.specs.Image.{imageWalk, imageOf, Imaged}
 use Rattle.place.specs.Site.{lineFits, filledFits, imageFits, siteAt, foundBy, found}
-use Rattle.place.specs.Pair.{formOf, pairOf, pairAt, afterWork, keptFits, fits, ended, Prepared, Placeable, Processed, PairPlaced}
+use Rattle.place.specs.Pair.{formOf, pairAt, pairIn, afterWork, keptFits, fits, ended, Prepared, Placeable, Processed, PairPlaced}
 use Rattle.place.proofs.NamedLaws.{both-true, named-by}
 
 -- ------------------------------------------------------------------ the definition in the code's order
@@ -202,38 +203,34 @@ pub ruleset processing = (needs, ready-short, pair-processed)
 -- ------------------------------------------------------------------ `place_pair`
 
 -- where a pair of a kept area goes
-pub record Sited (table ms : List ℕ) (areas : List Area) (l : Line) (n : Filled) (o : Option ℕ) (s : Site) : Type 0 where
+pub record Sited (table ms : List ℕ) (start size : ℕ) (l : Line) (n : Filled) (o : Option ℕ) (s : Site) : Type 0 where
   pub id : ℕ
   pub ranks : o ≡ some id
-  pub fitting : imageFits table ms (offset areas (l .area)) (extent areas (l .area)) (l .fragments) ≡ true
-  pub is : s ≡ siteAt l n id (offset areas (l .area)) (extent areas (l .area))
+  pub fitting : imageFits table ms start size (l .fragments) ≡ true
+  pub is : s ≡ siteAt l n id start size
 
 unlike-found : {C : Type 0} (s : Site) (f : Found) → f ≡ at.At s → (f ≡ at.Misfit → C) × (f ≡ at.Unkept → C)
 unlike-found s f e = (λ g. let z : _≡_ {A = ℕ} 0 1 = cc in absurd (omega arith), λ g. let z : _≡_ {A = ℕ} 0 1 = cc in absurd (omega arith))
 
-sited-if : (table ms : List ℕ) (areas : List Area) (l : Line) (n : Filled) (id : ℕ) (s : Site) (b : Bool)
-    → imageFits table ms (offset areas (l .area)) (extent areas (l .area)) (l .fragments) ≡ b
-    → pick b (at.At (siteAt l n id (offset areas (l .area)) (extent areas (l .area)))) at.Misfit ≡ at.At s → Sited table ms areas l n (some id) s
-sited-if table ms areas l n id s true e h = record { id = id; ranks = refl; fitting = e; is = cc }
-sited-if table ms areas l n id s false e h = unlike-found s at.Misfit h .0 refl
+module _ (table ms : List ℕ) (start size : ℕ) (l : Line) (n : Filled) where
+  sited-if : (id : ℕ) (s : Site) (b : Bool) → imageFits table ms start size (l .fragments) ≡ b → pick b (at.At (siteAt l n id start size)) at.Misfit ≡ at.At s → Sited table ms start size l n (some id) s
+  sited-if id s true e h = record { id = id; ranks = refl; fitting = e; is = cc }
+  sited-if id s false e h = unlike-found s at.Misfit h .0 refl
 
-sited : (table ms : List ℕ) (areas : List Area) (l : Line) (n : Filled) (o : Option ℕ) (s : Site) → foundBy table ms areas l n o ≡ at.At s → Sited table ms areas l n o s
-sited table ms areas l n none s h = unlike-found s at.Unkept h .1 refl
-sited table ms areas l n (some id) s h =
-    sited-if table ms areas l n id s (imageFits table ms (offset areas (l .area)) (extent areas (l .area)) (l .fragments)) refl h
+  sited : (o : Option ℕ) (s : Site) → foundBy table ms start size l n o ≡ at.At s → Sited table ms start size l n o s
+  sited none s h = unlike-found s at.Unkept h .1 refl
+  sited (some id) s h = sited-if id s (imageFits table ms start size (l .fragments)) refl h
 
--- an area that is not kept has no rank, and one that does not fit says so
-unkept-by : (table ms : List ℕ) (areas : List Area) (l : Line) (n : Filled) (o : Option ℕ) (b : Bool)
-    → imageFits table ms (offset areas (l .area)) (extent areas (l .area)) (l .fragments) ≡ b → foundBy table ms areas l n o ≡ at.Unkept → o ≡ none
-unkept-by table ms areas l n none b e h = refl
-unkept-by table ms areas l n (some id) true e h = let g = rw e at h in let z : _≡_ {A = ℕ} 0 1 = cc in absurd (omega arith)
-unkept-by table ms areas l n (some id) false e h = let g = rw e at h in let z : _≡_ {A = ℕ} 0 1 = cc in absurd (omega arith)
+  -- an area that is not kept has no rank, and one that does not fit says so
+  unkept-by : (o : Option ℕ) (b : Bool) → imageFits table ms start size (l .fragments) ≡ b → foundBy table ms start size l n o ≡ at.Unkept → o ≡ none
+  unkept-by none b e h = refl
+  unkept-by (some id) true e h = let g = rw e at h in let z : _≡_ {A = ℕ} 0 1 = cc in absurd (omega arith)
+  unkept-by (some id) false e h = let g = rw e at h in let z : _≡_ {A = ℕ} 0 1 = cc in absurd (omega arith)
 
-misfit-by : (table ms : List ℕ) (areas : List Area) (l : Line) (n : Filled) (o : Option ℕ) (b : Bool)
-    → imageFits table ms (offset areas (l .area)) (extent areas (l .area)) (l .fragments) ≡ b → foundBy table ms areas l n o ≡ at.Misfit → keptFits table ms areas l o ≡ false
-misfit-by table ms areas l n none b e h = let z : _≡_ {A = ℕ} 0 1 = cc in absurd (omega arith)
-misfit-by table ms areas l n (some id) true e h = let g = rw e at h in let z : _≡_ {A = ℕ} 0 1 = cc in absurd (omega arith)
-misfit-by table ms areas l n (some id) false e h = e
+  misfit-by : (o : Option ℕ) (b : Bool) → imageFits table ms start size (l .fragments) ≡ b → foundBy table ms start size l n o ≡ at.Misfit → keptFits table ms start size (l .fragments) o ≡ false
+  misfit-by none b e h = let z : _≡_ {A = ℕ} 0 1 = cc in absurd (omega arith)
+  misfit-by (some id) true e h = let g = rw e at h in let z : _≡_ {A = ℕ} 0 1 = cc in absurd (omega arith)
+  misfit-by (some id) false e h = e
 
 -- what the tests of the counts say
 pub record Counted (l : Line) (n : Filled) (lent room : ℕ) : Type 0 where
@@ -263,102 +260,111 @@ counted l n lent room h =
       space = leb-true 9216 room (b₃ .1);
     }
 
-module _ (table : List ℕ) (l : Line) (bs ms es xs areas symbols : List ℕ) (n : Filled) (vs masks rs : List ℕ) {c : Bool} (ec : c ≡ (lineFits l (length bs) && filledFits n (length rs))) where
-  pub pair-misfit : not c ≡ true → PairPlaced (fits table l bs ms areas n rs) (pairOf l bs ms es xs areas symbols n (stateOf vs masks rs (n .fixups))) vs masks rs Misfit vs masks rs
+module _ (table : List ℕ) (l : Line) (h : Home) (bs ms es xs areas symbols : List ℕ) (n : Filled) (vs masks rs : List ℕ) where
+  pub pair-elsewhere : (h .area ≡ l .area → ⊥) → PairPlaced (fits table l h bs ms n rs) (pairIn l h bs ms es xs areas symbols n (stateOf vs masks rs (n .fixups))) vs masks rs Misfit vs masks rs
   unfolding fits
-  pair-misfit h = record {
-    says = λ radix end. rw (← ec, not-true c h);
+  pair-elsewhere k = record {
+    says = λ radix end. rw (ne-eqb (h .area) (l .area) k);
     few = omega arith;
     rest = refl;
     same = λ e. (refl, (refl, refl));
   }
 
-  module _ (h : not c ≡ false) where
-    counts : (lineFits l (length bs) && filledFits n (length rs)) ≡ true
-    counts = rw (not-false c h) at (sym ec)
+  module _ (own : h .area ≡ l .area) {c : Bool} (ec : c ≡ (lineFits l (length bs) && filledFits n (length rs))) where
+    its : eqb (h .area) (l .area) ≡ true
+    its = eq-eqb (h .area) (l .area) own
 
-    facts : Counted l n (length bs) (length rs)
-    facts = counted l n (length bs) (length rs) counts
+    pub pair-misfit : not c ≡ true → PairPlaced (fits table l h bs ms n rs) (pairIn l h bs ms es xs areas symbols n (stateOf vs masks rs (n .fixups))) vs masks rs Misfit vs masks rs
+    unfolding fits
+    pair-misfit k = record {
+      says = λ radix end. rw (its, ← ec, not-true c k);
+      few = omega arith;
+      rest = refl;
+      same = λ e. (refl, (refl, refl));
+    }
 
-    pub pair-areas : n .areas ≤ 64
-    pair-areas = facts .areas
+    module _ (k : not c ≡ false) where
+      counts : (lineFits l (length bs) && filledFits n (length rs)) ≡ true
+      counts = rw (not-false c k) at (sym ec)
 
-    module _ {f : Found} (ef : f ≡ found table ms (areasIn areas (n .areas)) l n) where
-      found-is : {g : Found} → f ≡ g → foundBy table ms (areasIn areas (n .areas)) l n (rank 0 (areasIn areas (n .areas)) (l .area)) ≡ g
-      unfolding found
-      found-is e = sym ef ∙ e
+      facts : Counted l n (length bs) (length rs)
+      facts = counted l n (length bs) (length rs) counts
 
-      pub pair-unkept : f ≡ at.Unkept → PairPlaced (fits table l bs ms areas n rs) (pairOf l bs ms es xs areas symbols n (stateOf vs masks rs (n .fixups))) vs masks rs (Done (n .fixups)) vs masks rs
-      unfolding fits pairOf placePair tablesIn
-      pair-unkept e =
-          let o : rank 0 (areasIn areas (n .areas)) (l .area) ≡ none = unkept-by table ms (areasIn areas (n .areas)) l n (rank 0 (areasIn areas (n .areas)) (l .area)) _ refl (found-is e) in
-          record {
-            says = λ radix end. rw (counts, o);
-            few = facts .fixups;
-            rest = refl;
-            same = λ g. (refl, (refl, refl));
-          }
+      module _ {f : Found} (ef : f ≡ found table ms h l n) where
+        found-is : {g : Found} → f ≡ g → foundBy table ms (h .start) (h .size) l n (lastIndex (h .id)) ≡ g
+        unfolding found
+        found-is e = sym ef ∙ e
 
-      pub pair-nowhere : f ≡ at.Misfit → PairPlaced (fits table l bs ms areas n rs) (pairOf l bs ms es xs areas symbols n (stateOf vs masks rs (n .fixups))) vs masks rs Misfit vs masks rs
-      unfolding fits
-      pair-nowhere e =
-          let k : keptFits table ms (areasIn areas (n .areas)) l (rank 0 (areasIn areas (n .areas)) (l .area)) ≡ false =
-          misfit-by table ms (areasIn areas (n .areas)) l n (rank 0 (areasIn areas (n .areas)) (l .area)) _ refl (found-is e) in
-          record {
-            says = λ radix end. rw (counts, k);
-            few = omega arith;
-            rest = refl;
-            same = λ g. (refl, (refl, refl));
-          }
+        pub pair-unkept : f ≡ at.Unkept → PairPlaced (fits table l h bs ms n rs) (pairIn l h bs ms es xs areas symbols n (stateOf vs masks rs (n .fixups))) vs masks rs (Done (n .fixups)) vs masks rs
+        unfolding fits pairIn
+        pair-unkept e =
+            let o : lastIndex (h .id) ≡ none = unkept-by table ms (h .start) (h .size) l n (lastIndex (h .id)) _ refl (found-is e) in
+            record {
+              says = λ radix end. rw (its, counts, o);
+              few = facts .fixups;
+              rest = refl;
+              same = λ g. (refl, (refl, refl));
+            }
 
-      module _ {s : Site} (g : f ≡ at.At s) where
-        here : Sited table ms (areasIn areas (n .areas)) l n (rank 0 (areasIn areas (n .areas)) (l .area)) s
-        here = sited table ms (areasIn areas (n .areas)) l n (rank 0 (areasIn areas (n .areas)) (l .area)) s (found-is g)
-
-        both : (leb (offset (areasIn areas (n .areas)) (l .area) + extent (areasIn areas (n .areas)) (l .area)) 65536 ≡ true) × (names table ms 0 (l .fragments) ≡ true)
-        unfolding imageFits
-        both = both-true _ _ (here .fitting)
-
-        pub pair-placeable : Placeable table s bs ms rs
-        pair-placeable = rw (here .is) (record {
-          ready = record {
-            line = facts .line;
-            areas = facts .areas;
-            symbols = facts .symbols;
-            fixups = facts .fixups;
-            inside = leb-true (offset (areasIn areas (n .areas)) (l .area) + extent (areasIn areas (n .areas)) (l .area)) 65536 (both .0);
-            numbers = omega arith;
-          };
-          named = named-by table ms (l .fragments) (both .1);
-          lent = facts .bytes;
-          room = facts .space;
-        })
-
-        site-pair : (radix end : ℕ) → pairAt s bs ms es xs areas symbols (stateOf vs masks rs (s .filled .fixups)) radix (l .place) ≡ pairOf l bs ms es xs areas symbols n (stateOf vs masks rs (n .fixups)) radix end
-        unfolding pairAt pairOf placePair placeLine tablesIn
-        site-pair radix end = rw (here .is, here .ranks)
-
-        fits-true : fits table l bs ms areas n rs ≡ true
+        pub pair-nowhere : f ≡ at.Misfit → PairPlaced (fits table l h bs ms n rs) (pairIn l h bs ms es xs areas symbols n (stateOf vs masks rs (n .fixups))) vs masks rs Misfit vs masks rs
         unfolding fits
-        fits-true = rw (counts, here .ranks, here .fitting)
+        pair-nowhere e =
+            let u : keptFits table ms (h .start) (h .size) (l .fragments) (lastIndex (h .id)) ≡ false = misfit-by table ms (h .start) (h .size) l n (lastIndex (h .id)) _ refl (found-is e) in
+            record {
+              says = λ radix end. rw (its, counts, u);
+              few = omega arith;
+              rest = refl;
+              same = λ g. (refl, (refl, refl));
+            }
 
-        as-placed : (r : Fixed) {vs′ masks′ rs′ : List ℕ} → Processed (pairAt s bs ms es xs areas symbols (stateOf vs masks rs (s .filled .fixups))) vs masks rs r vs′ masks′ rs′
-            → PairPlaced true (pairOf l bs ms es xs areas symbols n (stateOf vs masks rs (n .fixups))) vs masks rs (ended (l .place) r) vs′ masks′ rs′
-        as-placed (Rows k) a = record {
-          says = λ radix end. ap some (a .says radix (l .place) ∙ site-pair radix end);
-          few = a .room;
-          rest = a .rest;
-          same = λ e. let z : _≡_ {A = ℕ} 0 1 = cc in absurd (omega arith);
-        }
-        as-placed (Refused x) a = record {
-          says = λ radix end. ap some (a .says radix (l .place) ∙ site-pair radix end);
-          few = omega arith;
-          rest = a .same refl .1 .1;
-          same = a .same;
-        }
+        module _ {s : Site} (g : f ≡ at.At s) where
+          here : Sited table ms (h .start) (h .size) l n (lastIndex (h .id)) s
+          here = sited table ms (h .start) (h .size) l n (lastIndex (h .id)) s (found-is g)
 
-        pub pair-done : {r : Fixed} {vs′ masks′ rs′ : List ℕ} → Processed (pairAt s bs ms es xs areas symbols (stateOf vs masks rs (s .filled .fixups))) vs masks rs r vs′ masks′ rs′
-            → {p : Placed} → p ≡ ended (l .place) r → PairPlaced (fits table l bs ms areas n rs) (pairOf l bs ms es xs areas symbols n (stateOf vs masks rs (n .fixups))) vs masks rs p vs′ masks′ rs′
-        pair-done {r} a ep = rw (ep, fits-true) (as-placed r a)
+          both : (leb (h .start + h .size) 65536 ≡ true) × (names table ms 0 (l .fragments) ≡ true)
+          unfolding imageFits
+          both = both-true _ _ (here .fitting)
 
-pub ruleset placing = (needs, pair-misfit, pair-areas, pair-unkept, pair-nowhere, pair-placeable, pair-done)
+          pub pair-placeable : Placeable table s bs ms rs
+          pair-placeable = rw (here .is) (record {
+            ready = record {
+              line = facts .line;
+              areas = facts .areas;
+              symbols = facts .symbols;
+              fixups = facts .fixups;
+              inside = leb-true (h .start + h .size) 65536 (both .0);
+              numbers = omega arith;
+            };
+            named = named-by table ms (l .fragments) (both .1);
+            lent = facts .bytes;
+            room = facts .space;
+          })
+
+          site-pair : (radix end : ℕ) → pairAt s bs ms es xs areas symbols (stateOf vs masks rs (s .filled .fixups)) radix (l .place) ≡ pairIn l h bs ms es xs areas symbols n (stateOf vs masks rs (n .fixups)) radix end
+          unfolding pairIn
+          site-pair radix end = rw (here .is, here .ranks)
+
+          fits-true : fits table l h bs ms n rs ≡ true
+          unfolding fits
+          fits-true = rw (its, counts, here .ranks, here .fitting)
+
+          as-placed : (r : Fixed) {vs′ masks′ rs′ : List ℕ} → Processed (pairAt s bs ms es xs areas symbols (stateOf vs masks rs (s .filled .fixups))) vs masks rs r vs′ masks′ rs′
+              → PairPlaced true (pairIn l h bs ms es xs areas symbols n (stateOf vs masks rs (n .fixups))) vs masks rs (ended (l .place) r) vs′ masks′ rs′
+          as-placed (Rows k) a = record {
+            says = λ radix end. ap some (a .says radix (l .place) ∙ site-pair radix end);
+            few = a .room;
+            rest = a .rest;
+            same = λ e. let z : _≡_ {A = ℕ} 0 1 = cc in absurd (omega arith);
+          }
+          as-placed (Refused x) a = record {
+            says = λ radix end. ap some (a .says radix (l .place) ∙ site-pair radix end);
+            few = omega arith;
+            rest = a .same refl .1 .1;
+            same = a .same;
+          }
+
+          pub pair-done : {r : Fixed} {vs′ masks′ rs′ : List ℕ} → Processed (pairAt s bs ms es xs areas symbols (stateOf vs masks rs (s .filled .fixups))) vs masks rs r vs′ masks′ rs′
+              → {p : Placed} → p ≡ ended (l .place) r → PairPlaced (fits table l h bs ms n rs) (pairIn l h bs ms es xs areas symbols n (stateOf vs masks rs (n .fixups))) vs masks rs p vs′ masks′ rs′
+          pair-done {r} a ep = rw (ep, fits-true) (as-placed r a)
+
+pub ruleset placing = (needs, pair-elsewhere, pair-misfit, pair-unkept, pair-nowhere, pair-placeable, pair-done)

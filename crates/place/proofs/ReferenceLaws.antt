@@ -1,24 +1,23 @@
--- What the proofs of the reference lookup share: a law for each return, and the loop's invariant.
+-- What the proofs of the reference lookup share: a law for each return.
 -- Assumes nothing.
 use Prim.Native.Nat.{ℕ, zero, suc, _+_, _-_, _*_, _/_, _%_, _≤_, _<_}
-use mathlib.Core.Path.{_≡_, refl, sym, ap, _∙_}
+use mathlib.Core.Path.{_≡_, refl, sym}
 use mathlib.Core.Bool.{Bool, true, false, not}
-use mathlib.Core.List.{List, _∷_}
+use mathlib.Core.List.{List}
 use mathlib.Core.Option.{Option, none, some}
-use native.Mathlib.Numerals.{add-one}
 use native.Mathlib.Omega.{arith}
 use lib.ListN.{getD, getElem?}
 use borrow.Author.Needs.{needs}
-use mir.Val.{Fits}
-use mir.Syntax.{w32}
-use borrow.Author.Tests.{le-leb, lt-leb, eq-eqb, ne-eqb, not-true, not-false}
-use Rattle.format.specs.Lists.{pick}
+use borrow.Author.Tests.{eq-eqb, ne-eqb, not-true, not-false}
 use Rattle.format.specs.Mode.{bit, gives, givesOf, Class, classOf}
 use Rattle.format.specs.Outcome.{fine}
-use Rattle.format.specs.Tables.{kept, code, rank, lastIndex}
+use Rattle.format.specs.Tables.{rank, lastIndex}
 use Rattle.format.specs.Fixups.{toArea, homeOf, symbolRef, reference}
 use Rattle.format.specs.Rows.{plusOneOrZero}
-use Rattle.laws.specs.Rows.{from, areaAt, areasIn, symbolAt, symbolsIn, tablesIn, fragment}
+use Rattle.laws.specs.Rows.{from, areasIn, symbolAt, symbolsIn, tablesIn, fragment}
+use Rattle.homes.specs.declared.Home.{Home}
+use Rattle.homes.specs.Home.{homeAt}
+use Rattle.homes.proofs.Use.{home-id}
 use Rattle.place.specs.declared.pair.Filled.{Filled}
 use Rattle.place.specs.declared.references.Reference.{Reference}
 use Rattle.place.specs.declared.references.Refers.{Refers}
@@ -26,86 +25,11 @@ use Rattle.place.specs.declared.references.Refers.the-variants.{Missing,
 use Rattle.place.specs.Columns.{fragmentAt}
 use Rattle.place.specs.References.{told, refersAt, refersIn}
 
--- `kept_at`
-module _ (areas : List ℕ) (j : ℕ) {z f : ℕ} (ez : z ≡ getD areas (6 * j + 2) 0) (ef : f ≡ getD areas (6 * j + 3) 0) where
-  pub kept-not-code : (f / 32 % 2 ≡ 1 → ⊥) → _≡_ {A = ℕ} 0 (pick (kept (areaAt areas j)) 1 0)
-  unfolding kept code areaAt bit
-  kept-not-code h = rw (← ef, ne-eqb (f / 32 % 2) 1 h)
+-- `rank_of`
+pub rank-is : (areas : List ℕ) (n i : ℕ) → n ≤ 64 → {h : Home} → h ≡ homeAt areas n i → h .id ≡ plusOneOrZero (rank 0 (areasIn areas n) i)
+rank-is areas n i m e = home-id areas n i e m
 
-  module _ (h : f / 32 % 2 ≡ 1) where
-    pub kept-yes : 1 ≤ z → _≡_ {A = ℕ} 1 (pick (kept (areaAt areas j)) 1 0)
-    unfolding kept code areaAt bit
-    kept-yes l = rw (← ef, ← ez, eq-eqb (f / 32 % 2) 1 h, le-leb 1 z l)
-
-    pub kept-empty : z < 1 → _≡_ {A = ℕ} 0 (pick (kept (areaAt areas j)) 1 0)
-    unfolding kept code areaAt bit
-    kept-empty l = rw (← ef, ← ez, eq-eqb (f / 32 % 2) 1 h, lt-leb 1 z l)
-
-pub ruleset keeping = (needs, kept-not-code, kept-yes, kept-empty)
-
--- `rank_at`, `rank_of`
-none-past : (areas : List ℕ) (k j n i : ℕ) → n ≤ i → rank k (from (areaAt areas) j n) i ≡ none
-unfolding rank from
-none-past areas k j zero i h = refl
-none-past areas k j (suc n) zero h = absurd (omega arith)
-none-past areas k j (suc n) (suc i) h = none-past areas _ (suc j) n i (omega arith)
-
-pub rank-past : (areas : List ℕ) (n i : ℕ) → n ≤ i → 0 ≡ plusOneOrZero (rank 0 (areasIn areas n) i)
-unfolding areasIn
-rank-past areas n i h = rw (none-past areas 0 0 n i h)
-
-pub record Ranking (areas : List ℕ) (n i k j : ℕ) : Type 0 where
-  pub within : j ≤ i
-  pub few : k ≤ j
-  pub rest : rank 0 (areasIn areas n) i ≡ rank k (from (areaAt areas) j (n - j)) (i - j)
-
-pub rank-start : (areas : List ℕ) (n i : ℕ) → Ranking areas n i 0 0
-unfolding areasIn
-rank-start areas n i = record {
-  within = omega arith;
-  few = omega arith;
-  rest = let e : n - 0 ≡ n = omega arith in let f : i - 0 ≡ i = omega arith in rw (e, f);
-}
-
-at-most : (b : Bool) → pick b 1 0 ≤ 1
-at-most true = omega arith
-at-most false = omega arith
-
-end-of : (b : Bool) (k x : ℕ) → x ≡ pick b 1 0 → (x ≡ 1 → k + 1 ≡ plusOneOrZero (pick b (some k) none)) × ((x ≡ 1 → ⊥) → 0 ≡ plusOneOrZero (pick b (some k) none))
-end-of true k x e = (λ h. rw add-one, λ h. absurd (h e))
-end-of false k x e = (λ h. absurd (omega arith), λ h. refl)
-
-module _ {areas : List ℕ} {n i k j : ℕ} (w : Ranking areas n i k j) (h : i < n) where
-  pub rank-more : j < i → {x : ℕ} → x ≡ pick (kept (areaAt areas j)) 1 0 → Ranking areas n i (k + x) (j + 1)
-  unfolding rank from
-  rank-more l e = record {
-    within = omega arith;
-    few = omega (arith, w .few, at-most (kept (areaAt areas j)));
-    rest =
-        let p : n - j ≡ suc (n - suc j) = omega arith in
-        let q : i - j ≡ suc (i - suc j) = omega arith in
-        rw (add-one, e) (w .rest ∙ (ap (λ (y : ℕ). rank k (from (areaAt areas) j y) (i - j)) p ∙ ap (λ (y : ℕ). rank k (areaAt areas j ∷ from (areaAt areas) (suc j) (n - suc j)) y) q));
-  }
-
-  pub rank-fits : j < i → n ≤ 64 → {x : ℕ} → x ≡ pick (kept (areaAt areas j)) 1 0 → Fits w32 (k + x)
-  rank-fits l m e = record { fits = omega (arith, w .few, at-most (kept (areaAt areas j))) }
-
-  pub rank-here : i ≤ j → rank 0 (areasIn areas n) i ≡ pick (kept (areaAt areas i)) (some k) none
-  unfolding rank from
-  rank-here g =
-      let s : j ≡ i = omega (arith, w .within) in
-      let p : n - i ≡ suc (n - suc i) = omega arith in
-      let q : i - i ≡ 0 = omega arith in
-      (rw s at (w .rest)) ∙ rw (q, p)
-
-  module _ (g : i ≤ j) {x : ℕ} (e : x ≡ pick (kept (areaAt areas i)) 1 0) where
-    pub rank-found : x ≡ 1 → k + 1 ≡ plusOneOrZero (rank 0 (areasIn areas n) i)
-    rank-found f = rw (rank-here g) (end-of (kept (areaAt areas i)) k x e .0 f)
-
-    pub rank-none : (x ≡ 1 → ⊥) → 0 ≡ plusOneOrZero (rank 0 (areasIn areas n) i)
-    rank-none f = rw (rank-here g) (end-of (kept (areaAt areas i)) k x e .1 f)
-
-pub ruleset ranking = (needs, rank-start, rank-more, rank-fits, rank-found, rank-none)
+pub ruleset ranking = (needs, rank-is)
 
 -- `to_area`
 abbrev pub to : (outside what length value : ℕ) → Reference

@@ -6,6 +6,7 @@ use mathlib.Core.Bool.{Bool, true, false, _&&_}
 use mathlib.Core.List.{List, _++_}
 use mathlib.Core.Option.{none, some}
 use native.Mathlib.Omega.{arith}
+use lib.Dec.{eqb}
 use lib.ListN.{length, take, drop, take-append-drop}
 use Rattle.format.specs.Lists.{pick, flat}
 use Rattle.format.specs.Outcome.{Outcome, fine}
@@ -15,6 +16,7 @@ use Rattle.format.specs.Rows.{fixupNumbers}
 use Rattle.laws.specs.Rows.{fixupsIn, stateOf}
 use Rattle.place.specs.Pair.{PairPlaced, told, changes, fits}
 use Rattle.place.specs.Site.{lineFits, filledFits}
+use Rattle.homes.specs.declared.Home.{Home}
 use Rattle.place.specs.declared.pair.Line.{Line}
 use Rattle.place.specs.declared.pair.Filled.{Filled}
 use Rattle.place.specs.Group.{Regrouped}
@@ -116,18 +118,19 @@ module _ (fit : Bool) (o : (radix end : ℕ) → Outcome State) (vs ms rows : Li
   placed-once Misfit q a b = still Misfit q refl a b
 
 -- rows that fit have room for the bound
-fits-room : (table : List ℕ) (l : Line) (bs ms areas : List ℕ) (n : Filled) (rows : List ℕ) → fits table l bs ms areas n rows ≡ true → 9216 ≤ length rows
+fits-room : (table : List ℕ) (l : Line) (h : Home) (bs ms : List ℕ) (n : Filled) (rows : List ℕ) → fits table l h bs ms n rows ≡ true → 9216 ≤ length rows
 unfolding fits
-fits-room table l bs ms areas n rows e =
-    counted l n (length bs) (length rows) (both-true (lineFits l (length bs) && filledFits n (length rows)) _ e .0) .space
+fits-room table l h bs ms n rows e =
+    let f = both-true (eqb (h .area) (l .area)) _ e .1 in
+    counted l n (length bs) (length rows) (both-true (lineFits l (length bs) && filledFits n (length rows)) _ f .0) .space
 
 -- `place_pair`: a lent buffer keeps its length
-pub one-pair : (table : List ℕ) (l : Line) (bs ms areas : List ℕ) (n : Filled) (o : (radix end : ℕ) → Outcome State) (vs masks rows : List ℕ) (r q : Placed) (vs₁ ms₁ rows₁ vs₂ ms₂ rows₂ : List ℕ)
+pub one-pair : (table : List ℕ) (l : Line) (h : Home) (bs ms : List ℕ) (n : Filled) (o : (radix end : ℕ) → Outcome State) (vs masks rows : List ℕ) (r q : Placed) (vs₁ ms₁ rows₁ vs₂ ms₂ rows₂ : List ℕ)
     → length rows₁ ≡ length rows → length rows₂ ≡ length rows
-    → PairPlaced (fits table l bs ms areas n rows) o vs masks rows r vs₁ ms₁ rows₁ → PairPlaced (fits table l bs ms areas n rows) o vs masks rows q vs₂ ms₂ rows₂
+    → PairPlaced (fits table l h bs ms n rows) o vs masks rows r vs₁ ms₁ rows₁ → PairPlaced (fits table l h bs ms n rows) o vs masks rows q vs₂ ms₂ rows₂
     → Same r vs₁ ms₁ rows₁ q vs₂ ms₂ rows₂
-one-pair table l bs ms areas n o vs masks rows r q vs₁ ms₁ rows₁ vs₂ ms₂ rows₂ l₁ l₂ a b =
-    placed-once (fits table l bs ms areas n rows) o vs masks rows (fits-room table l bs ms areas n rows) vs₁ ms₁ rows₁ vs₂ ms₂ rows₂ l₁ l₂ r q a b
+one-pair table l h bs ms n o vs masks rows r q vs₁ ms₁ rows₁ vs₂ ms₂ rows₂ l₁ l₂ a b =
+    placed-once (fits table l h bs ms n rows) o vs masks rows (fits-room table l h bs ms n rows) vs₁ ms₁ rows₁ vs₂ ms₂ rows₂ l₁ l₂ r q a b
 
 -- `by_area`
 pub one-grouping : (k n : ℕ) (rows out : List ℕ) (r q : Grouped) (out₁ out₂ : List ℕ) → Regrouped k n rows out r out₁ → Regrouped k n rows out q out₂ → (r ≡ q) × (out₁ ≡ out₂)

@@ -1,7 +1,6 @@
 pub mod Columns
 pub mod Named
 pub mod Work
-pub mod Spot
 pub mod References
 pub mod Check
 pub mod Sure

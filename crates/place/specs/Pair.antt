@@ -5,14 +5,16 @@ use mathlib.Core.Path.{_≡_}
 use mathlib.Core.Bool.{Bool, true, false, _&&_}
 use mathlib.Core.List.{List}
 use mathlib.Core.Option.{Option, none, some}
+use lib.Dec.{eqb}
 use lib.ListN.{length, take, drop}
 use Rattle.format.specs.Lists.{pick}
 use Rattle.format.specs.Header.{Form}
 use Rattle.format.specs.Pairs.{Content, placed}
 use Rattle.format.specs.Outcome.{Outcome, fine, refused, andThen}
-use Rattle.format.specs.Tables.{Area, rank, offset}
-use Rattle.format.specs.Placing.{State, walk, walkBy, extent, placeAt, placePair}
-use Rattle.laws.specs.Rows.{areasIn, tablesIn, stateOf}
+use Rattle.format.specs.Tables.{lastIndex}
+use Rattle.format.specs.Placing.{State, walk, walkBy, placeAt, placePair}
+use Rattle.laws.specs.Rows.{tablesIn, stateOf}
+use Rattle.homes.specs.declared.Home.{Home}
 use Rattle.place.specs.declared.pair.Line.{Line}
 use Rattle.place.specs.declared.pair.Filled.{Filled}
 use Rattle.place.specs.declared.pair.Placed.{Placed}
@@ -26,7 +28,7 @@ use Rattle.place.specs.declared.work_line.Worked.{Worked}
 use Rattle.place.specs.Named.{Named}
 use Rattle.place.specs.Work as work
 use Rattle.place.specs.Walk.{Ready, writes}
-use Rattle.place.specs.Site.{lineFits, filledFits, imageFits}
+use Rattle.place.specs.Site.{lineFits, filledFits, imageFits, siteAt}
 
 abbrev pub formOf : ℕ → Line → Form
 formOf radix l = record { radix = radix; big = l .big; addressLength = l .width }
@@ -51,15 +53,23 @@ afterWork s worked ms es xs areas symbols ns wv wm wk st radix place =
     andThen (work.told place worked wv wm wk ns) (λ d.
     walk (walkBy (tablesOf areas symbols s) place (s .home) (s .start) (s .size) (fragmentsIn ms es xs (s .line .fragments)) d) (s .line .width + s .line .bytes) 0 (s .line .address) st)
 
--- a kept area's image ends within the bound, and the table has the classes of the pair's modes
-abbrev pub keptFits : (table ms : List ℕ) → List Area → Line → Option ℕ → Bool
-keptFits table ms areas l none = true
-keptFits table ms areas l (some id) = imageFits table ms (offset areas (l .area)) (extent areas (l .area)) (l .fragments)
+-- the same for a pair at a home
+abbrev pub pairBy : Line → Filled → (start size : ℕ) (bs ms es xs areas symbols : List ℕ) → State → (radix : ℕ) → Option ℕ → Outcome State
+pairBy l n start size bs ms es xs areas symbols st radix none = fine st
+pairBy l n start size bs ms es xs areas symbols st radix (some id) = pairAt (siteAt l n id start size) bs ms es xs areas symbols st radix (l .place)
 
--- whether a pair can be placed: 5 to 9 are ruled out, the lent rows have room, and the table has the classes of the pair's modes
-unfoldable pub fits : (table : List ℕ) → Line → (bs ms areas : List ℕ) → Filled → (rows : List ℕ) → Bool
-fits table l bs ms areas n rows =
-    (lineFits l (length bs) && filledFits n (length rows)) && keptFits table ms (areasIn areas (n .areas)) l (rank 0 (areasIn areas (n .areas)) (l .area))
+unfoldable pub pairIn : Line → Home → (bs ms es xs areas symbols : List ℕ) → Filled → State → (radix end : ℕ) → Outcome State
+pairIn l h bs ms es xs areas symbols n st radix end = pairBy l n (h .start) (h .size) bs ms es xs areas symbols st radix (lastIndex (h .id))
+
+-- a kept area's image ends within the bound, and the table has the classes of the pair's modes
+abbrev pub keptFits : (table ms : List ℕ) (start size fragments : ℕ) → Option ℕ → Bool
+keptFits table ms start size c none = true
+keptFits table ms start size c (some id) = imageFits table ms start size c
+
+-- whether a pair can be placed: the home is its area's, 5 to 9 are ruled out, the lent rows have room, and the table has the classes of the pair's modes
+unfoldable pub fits : (table : List ℕ) → Line → Home → (bs ms : List ℕ) → Filled → (rows : List ℕ) → Bool
+fits table l h bs ms n rows =
+    eqb (h .area) (l .area) && ((lineFits l (length bs) && filledFits n (length rows)) && keptFits table ms (h .start) (h .size) (l .fragments) (lastIndex (h .id)))
 
 -- what an answer says, with the images and the rows as they are then
 abbrev pub told : Placed → (vs ms rows : List ℕ) → Option (Outcome State)

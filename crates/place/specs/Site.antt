@@ -6,8 +6,8 @@ use mathlib.Core.List.{List}
 use mathlib.Core.Option.{Option, none, some}
 use lib.Dec.{leb}
 use Rattle.format.specs.Lists.{pick}
-use Rattle.format.specs.Tables.{Area, rank, offset}
-use Rattle.format.specs.Placing.{extent}
+use Rattle.format.specs.Tables.{lastIndex}
+use Rattle.homes.specs.declared.Home.{Home}
 use Rattle.place.specs.declared.pair.Line.{Line}
 use Rattle.place.specs.declared.pair.Filled.{Filled}
 use Rattle.place.specs.declared.site.Site.{Site}
@@ -31,11 +31,10 @@ imageFits table ms start size c = leb (start + size) 65536 && names table ms 0 c
 abbrev pub siteAt : Line → Filled → (id start size : ℕ) → Site
 siteAt l n id start size = record { line = l; filled = n; home = id; start = start; size = size; made = 0 }
 
--- where a pair goes, by the rank of its area
-abbrev pub foundBy : (table ms : List ℕ) → List Area → Line → Filled → Option ℕ → Found
-foundBy table ms areas l n none = Unkept
-foundBy table ms areas l n (some id) =
-    pick (imageFits table ms (offset areas (l .area)) (extent areas (l .area)) (l .fragments)) (At (siteAt l n id (offset areas (l .area)) (extent areas (l .area)))) Misfit
+-- where a pair goes, by the id of its area's home
+abbrev pub foundBy : (table ms : List ℕ) (start size : ℕ) → Line → Filled → Option ℕ → Found
+foundBy table ms start size l n none = Unkept
+foundBy table ms start size l n (some id) = pick (imageFits table ms start size (l .fragments)) (At (siteAt l n id start size)) Misfit
 
-unfoldable pub found : (table ms : List ℕ) → List Area → Line → Filled → Found
-found table ms areas l n = foundBy table ms areas l n (rank 0 areas (l .area))
+unfoldable pub found : (table ms : List ℕ) → Home → Line → Filled → Found
+found table ms h l n = foundBy table ms (h .start) (h .size) l n (lastIndex (h .id))

@@ -1,4 +1,4 @@
-// One T and R pair placed: its work line, its fixups and its bytes; and fixup rows grouped by area.
+// One T and R pair placed in its area's image: its work line, its fixups and its bytes; and fixup rows grouped by area.
 mod check;
 mod group;
 mod image;
@@ -10,7 +10,6 @@ mod plain;
 mod references;
 mod row;
 mod site;
-mod spot;
 mod sure;
 mod walk;
 mod work_line;

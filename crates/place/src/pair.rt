@@ -9,6 +9,7 @@ use crate::site::locate;
 use crate::walk::Fixed;
 use crate::work_line::Worked;
 use crate::work_line::work_line;
+use homes::Home;
 ghost use mathlib.Core.Path.{_≡_};
 ghost use Prim.Native.Nat.{_≤_};
 ghost use lib.ListN.{length};
@@ -16,7 +17,7 @@ ghost use Rattle.laws.specs.Rows.{stateOf};
 ghost use Rattle.place.specs.Named.{Named};
 ghost use Rattle.place.specs.Work.{madeBy};
 ghost use Rattle.place.specs.Walk.{Ready};
-ghost use Rattle.place.specs.Pair.{fits, ended, afterWork, pairAt, pairOf, Placeable, Processed, PairPlaced};
+ghost use Rattle.place.specs.Pair.{fits, ended, afterWork, pairAt, pairIn, Placeable, Processed, PairPlaced};
 
 // A pair's numbers: the header's order and address length, the T line's place and address, how many content bytes and fragments, and the area's index.
 pub struct Line {
@@ -164,10 +165,11 @@ fn process_relocs(
     )
 }
 
-// One T and R pair: a refusal or a misfit changes nothing, and neither does a pair of an area that is not kept.
+// One T and R pair, given its area's home: a refusal or a misfit changes nothing, and neither does a pair of an area that is not kept. Another area's home is a misfit.
 pub fn place_pair(
     table: &[u8; 2048],
     line: Line,
+    home: Home,
     bs: &[u8],
     ms: &[u32],
     es: &[u32],
@@ -179,12 +181,15 @@ pub fn place_pair(
     masks: &mut [u8],
     rows: &mut [u32],
 ) -> Placed
-    ensures { λ r. ⌜ PairPlaced (fits (now (table .entry)) line (now (bs .entry)) (now (ms .entry)) (now (areas .entry)) filled (now (rows .entry))) (pairOf line (now (bs .entry)) (now (ms .entry)) (now (es .entry)) (now (xs .entry)) (now (areas .entry)) (now (symbols .entry)) filled (stateOf (now (values .entry)) (now (masks .entry)) (now (rows .entry)) (filled .fixups))) (now (values .entry)) (now (masks .entry)) (now (rows .entry)) r (now (values .exit)) (now (masks .exit)) (now (rows .exit)) ⌝ }
+    ensures { λ r. ⌜ PairPlaced (fits (now (table .entry)) line home (now (bs .entry)) (now (ms .entry)) filled (now (rows .entry))) (pairIn line home (now (bs .entry)) (now (ms .entry)) (now (es .entry)) (now (xs .entry)) (now (areas .entry)) (now (symbols .entry)) filled (stateOf (now (values .entry)) (now (masks .entry)) (now (rows .entry)) (filled .fixups))) (now (values .entry)) (now (masks .entry)) (now (rows .entry)) r (now (values .exit)) (now (masks .exit)) (now (rows .exit)) ⌝ }
 {
+    if home.area != line.area {
+        return Placed::Misfit;
+    }
     if !counts_fit(line, filled, bs.len(), rows.len()) {
         return Placed::Misfit;
     }
-    match locate(table, ms, areas, line, filled) {
+    match locate(table, ms, home, line, filled) {
         Found::Unkept => Placed::Done(filled.fixups),
         Found::Misfit => Placed::Misfit,
         Found::At(site) => {

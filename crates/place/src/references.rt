@@ -1,19 +1,18 @@
 // What a fragment refers to: a symbol of another module, or a kept area of this one.
 use crate::named::class_at;
 use crate::pair::Filled;
-use crate::spot::spot_in;
 use cells::at;
 use cells::wide;
+use homes::home_at;
 use mode::gives;
 ghost use mathlib.Core.Path.{_≡_};
 ghost use mathlib.Core.Option.{Option, some};
 ghost use Prim.Native.Nat.{ℕ, _≤_, _<_};
-ghost use Rattle.format.specs.Lists.{pick};
 ghost use Rattle.format.specs.Outcome.{fine};
-ghost use Rattle.format.specs.Tables.{kept, rank, lastIndex};
+ghost use Rattle.format.specs.Tables.{rank, lastIndex};
 ghost use Rattle.format.specs.Fixups.{toArea, homeOf, symbolRef, reference};
 ghost use Rattle.format.specs.Rows.{plusOneOrZero};
-ghost use Rattle.laws.specs.Rows.{areaAt, areasIn, symbolAt, tablesIn, fragment};
+ghost use Rattle.laws.specs.Rows.{areasIn, symbolAt, tablesIn, fragment};
 ghost use Rattle.place.specs.Columns.{fragmentAt};
 ghost use Rattle.place.specs.Named.{NamedAt};
 ghost use Rattle.place.specs.References.{told, refersIn};
@@ -33,48 +32,13 @@ pub(crate) enum Refers {
     To(Reference),
 }
 
-// 1 for a kept area, else 0.
-fn kept_at(areas: &[u32], j: usize) -> u32
-    requires { ⌜ j < 64 ⌝ }
-    ensures { λ r. ⌜ r ≡ pick (kept (areaAt (now (areas .entry)) j)) 1 0 ⌝ }
-{
-    let size = at(areas, 6 * j + 2);
-    let flags = at(areas, 6 * j + 3);
-    if flags / 32 % 2 == 1 {
-        if 1 <= size {
-            return 1;
-        }
-    }
-    0
-}
-
-// The rank of the area i among the kept ones, plus 1; 0 if it is none of them.
-fn rank_at(areas: &[u32], n: usize, i: usize) -> u32
-    requires { ⌜ (n ≤ 64) × (i < n) ⌝ }
-    ensures { λ r. ⌜ r ≡ plusOneOrZero (rank 0 (areasIn (now (areas .entry)) n) i) ⌝ }
-{
-    let mut k: u32 = 0;
-    let mut j: usize = 0;
-    while j < i {
-        k += kept_at(areas, j);
-        j += 1;
-    }
-    if kept_at(areas, i) == 1 { k + 1 } else { 0 }
-}
-
-// The same for an area of any index, faster where all rows are lent.
-pub(crate) fn rank_of(areas: &[u32], n: usize, i: usize) -> u32
+// The rank of an area of any index among the kept ones, plus 1; 0 if it is none of them.
+fn rank_of(areas: &[u32], n: usize, i: usize) -> u32
     requires { ⌜ n ≤ 64 ⌝ }
     ensures { λ r. ⌜ r ≡ plusOneOrZero (rank 0 (areasIn (now (areas .entry)) n) i) ⌝ }
 {
-    if n <= i {
-        return 0;
-    }
-    if areas.len() < 6 * n {
-        return rank_at(areas, n, i);
-    }
-    let spot = spot_in(areas, n, i);
-    spot.id
+    let home = home_at(areas, n, i);
+    home.id
 }
 
 // A kept area by its id plus 1, with a value; or nothing.

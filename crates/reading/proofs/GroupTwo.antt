@@ -29,8 +29,11 @@ use Rattle.text.specs.declared.Width.{Width}
 use Rattle.text.specs.declared.Width.the-variants as wide
 use Rattle.line.specs.Pairs.{Rows}
 use Rattle.place.specs.Columns.{fragmentAt, fragmentsIn}
-use Rattle.place.specs.Pair.{contentOf, pairOf, fits as fitsIn, told, usedNow, PairPlaced}
-use Rattle.reading.proofs.PlaceFits.{fits-when}
+use Rattle.place.specs.Pair.{contentOf, pairOf, pairIn, fits as fitsIn, told, usedNow, PairPlaced}
+use Rattle.homes.specs.Home.{homeAt}
+use Rattle.homes.specs.declared.Home.{Home}
+use Rattle.homes.proofs.Use.{home-own}
+use Rattle.place.proofs.Use.{Fit, fits-when, placed-when}
 use Rattle.place.specs.declared.pair.Filled.{Filled}
 use Rattle.place.specs.declared.pair.Line.{Line}
 use Rattle.place.specs.declared.pair.Placed as place
@@ -172,34 +175,38 @@ told-stands (Stopped n p) vs ms rows o e = cc
 told-stands Misfit vs ms rows o e = absurd (let z : _≡_ {A = ℕ} 0 1 = cc in omega arith)
 
 module _ {l : Line} {g : Going} {table bytes areas rows : List ℕ} (w : PlaceReady l g table bytes areas rows) (ms es xs symbols vs fs : List ℕ) where
-  pub body-kept : {n p : ℕ} → g .standing ≡ Kept n p → {g′ : Going} {u : Turn} → g′ ≡ standingIn g (g .standing) → u ≡ afterOf g′
+  pub body-kept : {n p : ℕ} → g .standing ≡ Kept n p → {g′ : Going} {u : Turn} → g′ ≡ standingIn g (g .home) (g .standing) → u ≡ afterOf g′
       → Advances l g bytes ms es xs areas symbols vs fs rows u vs fs rows
-  body-kept e i j = record { standing = g .standing; answered = j ∙ ap afterOf i; says = λ radix end. rw e; sound = w .sound }
+  body-kept e i j = record { standing = g .standing; home = g .home; answered = j ∙ ap afterOf i; says = λ radix end. rw e; sound = w .sound; homed = w .homed }
 
-  pub body-made : {k : ℕ} → g .standing ≡ Made k → {q : Filled} → q ≡ filledOf g k → {r : place.Placed} {vs′ fs′ rows′ : List ℕ}
-      → PairPlaced (fitsIn table l bytes ms areas q rows) (pairOf l bytes ms es xs areas symbols q (stateOf vs fs rows (q .fixups))) vs fs rows r vs′ fs′ rows′
-      → {s : Standing} {g′ : Going} {u : Turn} → s ≡ standingOf r → g′ ≡ standingIn g s → u ≡ afterOf g′
+  pub body-made : {k : ℕ} → g .standing ≡ Made k → {q : Filled} → q ≡ filledOf g k → {h : Home} → h ≡ homeAt areas (g .areas) (l .area) → {r : place.Placed} {vs′ fs′ rows′ : List ℕ}
+      → PairPlaced (fitsIn table l h bytes ms q rows) (pairIn l h bytes ms es xs areas symbols q (stateOf vs fs rows (q .fixups))) vs fs rows r vs′ fs′ rows′
+      → {s : Standing} {g′ : Going} {u : Turn} → s ≡ standingOf r → g′ ≡ standingIn g h s → u ≡ afterOf g′
       → Advances l g bytes ms es xs areas symbols vs fs rows u vs′ fs′ rows′
   unfolding pairOf
-  body-made {k} e {q} i {r} {vs′} {fs′} {rows′} d {s} h n u =
+  body-made {k} e {q} i {h} eh {r} {vs′} {fs′} {rows′} d {s} j n u =
       let made : Sound areas (g .areas) (Made k) = rw e at (w .sound) in
-      let fit : fitsIn table l bytes ms areas q rows ≡ true = rw i (fits-when (record {
+      let can : Fit table l h bytes areas (filledOf g k) rows = record {
         classes = w .classes;
+        home = eh;
         address = w .address;
-        bytes = w .content;
+        content = w .content;
         lent = w .lent;
         fragments = w .fragments;
-        tables = w .areas-low;
+        listed = w .areas-low;
         symbols = w .symbols-low;
         sizes = made .1;
         made = made .0;
         room = w .room;
-      }) ms) in
+      } in
+      let fit : fitsIn table l h bytes ms q rows ≡ true = rw i (fits-when can ms) in
       record {
         standing = standingOf r;
-        answered = u ∙ ap afterOf (n ∙ ap (standingIn g) h);
-        says = λ radix end. rw e (told-stands r vs′ fs′ rows′ _ (rw (fit, i) at (d .says radix end)));
+        home = h;
+        answered = u ∙ ap afterOf (n ∙ ap (standingIn g h) j);
+        says = λ radix end. rw e (told-stands r vs′ fs′ rows′ _ (rw (fit, i) at (d .says radix end)) ∙ placed-when can ms es xs symbols (stateOf vs fs rows k) radix end);
         sound = go r (d .few) (made .1);
+        homed = eh ∙ ap (homeAt areas (g .areas)) (sym (home-own areas (g .areas) (l .area) eh));
       }
     where
       go : (r : place.Placed) → usedNow r ≤ 1024 → total (areasIn areas (g .areas)) ≤ 65536 → Sound areas (g .areas) (standingOf r)
@@ -207,7 +214,14 @@ module _ {l : Line} {g : Going} {table bytes areas rows : List ℕ} (w : PlaceRe
       go (Stopped n p) a b = tt
       go Misfit a b = tt
 
-pub ruleset bodies = (needs, body-kept, body-made)
+-- `home_for`
+pub home-last : (areas : List ℕ) (g : Going) {i : ℕ} → g .home ≡ homeAt areas (g .areas) (g .home .area) → g .home .area ≡ i → g .home ≡ homeAt areas (g .areas) i
+home-last areas g e j = e ∙ ap (homeAt areas (g .areas)) j
+
+pub ready-homed : {l : Line} {g : Going} {table bytes areas rows : List ℕ} → PlaceReady l g table bytes areas rows → g .home ≡ homeAt areas (g .areas) (g .home .area)
+ready-homed w = w .homed
+
+pub ruleset bodies = (needs, body-kept, body-made, home-last, ready-homed)
 
 -- ------------------------------------------------------------------ the pairs from here on
 
@@ -221,11 +235,11 @@ and-fine (refused n p) = refl
 
 module _ (f : Form) (t : Tables) where
   -- one pair more
-  onward-step : (x : Taken the.Pair) (ps : List (Taken the.Pair)) (g : Going) (m next : ℕ) (on : Bool) (s : Standing) (vs ms rows vs′ ms′ rows′ : List ℕ) → fits (g .lines) x ≡ fine m
+  onward-step : (x : Taken the.Pair) (ps : List (Taken the.Pair)) (g : Going) (m next : ℕ) (on : Bool) (h : Home) (s : Standing) (vs ms rows vs′ ms′ rows′ : List ℕ) → fits (g .lines) x ≡ fine m
       → stands s vs′ ms′ rows′ ≡ andThen (stands (g .standing) vs ms rows) (λ s. placePair f t s x)
-      → onward f t (x ∷ ps) g vs ms rows ≡ onward f t ps (standingIn (steppedOf g m (x .end) next on) s) vs′ ms′ rows′
+      → onward f t (x ∷ ps) g vs ms rows ≡ onward f t ps (standingIn (steppedOf g m (x .end) next on) h s) vs′ ms′ rows′
   unfolding onward fold
-  onward-step x ps g m next on s vs ms rows vs′ ms′ rows′ e h =
+  onward-step x ps g m next on k s vs ms rows vs′ ms′ rows′ e h =
       rw e (ap (λ (o : Outcome State). andThen (fold fits m ps) (λ n. andThen o (λ s. fine (record { lines = n; stop = lastOf (x .end) (endsOf ps); state = s }))))
       (sym (and-and (stands (g .standing) vs ms rows) (λ s. placePair f t s x) (λ s. fold (placePair f t) s ps))
       ∙ ap (λ (o : Outcome State). andThen o (λ s. fold (placePair f t) s ps)) (sym h)))
@@ -319,9 +333,9 @@ module _ {ended : Bool} (f : text.Form) {text areas : List ℕ} (symbols : List 
 
   -- a record further, the reading goes on from there
   ready-then : {body : Body} {end next : ℕ} {on : Bool} → StepOf (pairAt ended (formOf f) text (g .next)) text (g .next) body end next on b ms es xs b′ ms′ es′ xs′ → (m : ℕ) → m ≤ g .lines + 1
-      → (s : Standing) → Sound areas (g .areas) s → on ≡ true → Ready text areas (standingIn (steppedOf g m end next on) s) × (g .next < next)
-  ready-then o m h s i e = (
-    record { inside = o .inside; low = omega (arith, ready .low, o .more e); areas-low = ready .areas-low; symbols-low = ready .symbols-low; sound = i },
+      → (h : Home) → h ≡ homeAt areas (g .areas) (h .area) → (s : Standing) → Sound areas (g .areas) s → on ≡ true → Ready text areas (standingIn (steppedOf g m end next on) h s) × (g .next < next)
+  ready-then o m l h j s i e = (
+    record { inside = o .inside; low = omega (arith, ready .low, o .more e); areas-low = ready .areas-low; symbols-low = ready .symbols-low; sound = i; homed = j },
     o .more e,
   )
 
@@ -341,8 +355,8 @@ module _ {ended : Bool} (f : text.Form) {text areas : List ℕ} (symbols : List 
       let s : stands (g .standing) vs fs rows ≡ andThen (stands (g .standing) vs fs rows) (λ s. placePair (formOf f) t s x) = rw q (and-fine (stands (g .standing) vs fs rows)) in
       subst (λ (x : Turn). TurnIs ended (formOf f) text areas symbols (g .next) (onwardAt ended (formOf f) text areas symbols g vs fs rows) x vs fs rows) d
       (after-is ended (formOf f) text areas symbols (g .next) vs fs rows (steppedOf g (g .lines) end next on)
-      (ready-then y (g .lines) (omega arith) (g .standing) (ready .sound)) (ready .sound)
-      (at-here _ (at-takes ended (formOf f) text (g .next) y) ∙ onward-step (formOf f) t x (pick on (pairsAt ended (formOf f) text next) []) g (g .lines) next on (g .standing) vs fs rows vs fs rows (rw q) s))
+      (ready-then y (g .lines) (omega arith) (g .home) (ready .homed) (g .standing) (ready .sound)) (ready .sound)
+      (at-here _ (at-takes ended (formOf f) text (g .next) y) ∙ onward-step (formOf f) t x (pick on (pairsAt ended (formOf f) text next) []) g (g .lines) next on (g .home) (g .standing) vs fs rows vs fs rows (rw q) s))
   leaves (Takes (Placed a n ar k) end next on) y u e = go (ltb 256 n) (ltb 64 k) refl refl e
     where
       t : Tables
@@ -448,6 +462,7 @@ module _ {ended : Bool} (f : text.Form) {text areas : List ℕ} {g : Going} (rea
         areas-low = ready .areas-low;
         symbols-low = ready .symbols-low;
         sound = ready .sound;
+        homed = ready .homed;
         room = j;
       }))
 
@@ -476,10 +491,10 @@ module _ {ended : Bool} (f : text.Form) {text areas : List ℕ} {g : Going} (rea
       let h : stands (a .standing) vs′ fs′ rows′ ≡ andThen (stands (g .standing) vs fs rows) (λ s. placePair (formOf f) t s x) =
       a .says (f .radix) (plan .end) ∙ ap (λ (q : the.Pair). andThen (stands (g .standing) vs fs rows) (λ s. placePair (formOf f) t s (record { place = g .next; end = plan .end; body = q }))) body-eq in
       subst (λ (u : Turn). TurnIs ended (formOf f) text areas symbols (g .next) (onwardAt ended (formOf f) text areas symbols g vs fs rows) u vs′ fs′ rows′) (sym (a .answered))
-      (after-is ended (formOf f) text areas symbols (g .next) vs′ fs′ rows′ (standingIn going (a .standing))
-      (ready-then f symbols ready v vs fs rows here (g .lines + 1) (omega arith) (a .standing) (a .sound)) (a .sound)
+      (after-is ended (formOf f) text areas symbols (g .next) vs′ fs′ rows′ (standingIn going (a .home) (a .standing))
+      (ready-then f symbols ready v vs fs rows here (g .lines + 1) (omega arith) (a .home) (a .homed) (a .standing) (a .sound)) (a .sound)
       (at-here f symbols ready v vs fs rows _ (at-takes ended (formOf f) text (g .next) here)
-      ∙ onward-step (formOf f) t x (pick (plan .on) (pairsAt ended (formOf f) text (plan .next)) []) g (g .lines + 1) (plan .next) (plan .on) (a .standing) vs fs rows vs′ fs′ rows′
+      ∙ onward-step (formOf f) t x (pick (plan .on) (pairsAt ended (formOf f) text (plan .next)) []) g (g .lines + 1) (plan .next) (plan .on) (a .home) (a .standing) vs fs rows vs′ fs′ rows′
       (fits-both (here .pair) (g .next) (plan .end) (g .lines) w (plan .short) (plan .few)) h))
 
 -- what a turn asks on the way

@@ -22,7 +22,9 @@ use Rattle.format.specs.Reading as paper
 use Rattle.format.specs.Held.{Held}
 use Rattle.laws.specs.Places.{recordsAt, pairsAt}
 use Rattle.laws.specs.Rows.{from, areasIn, tablesIn, fixupRow, fixupsIn, stateOf}
-use Rattle.place.specs.Group.{areasFor, Regrouped}
+use Rattle.place.specs.Group.{areasFor, roomFor, Regrouped}
+use Rattle.homes.specs.Home.{noHome, homeAt}
+use Rattle.homes.proofs.Laws.{home-past}
 use Rattle.place.specs.declared.group.Grouped as place
 use Rattle.text.proofs.Laws.Tests.{was-no, was-yes}
 use Rattle.reading.specs.Answer.{toldCounts, held}
@@ -44,7 +46,6 @@ use Rattle.reading.specs.declared.plan.Two.{Two}
 use Rattle.reading.specs.declared.plan.Two.the-variants.{All, Rejected}
 use Rattle.reading.proofs.GroupOne.{flat-length, six-numbers, five-numbers}
 use Rattle.reading.proofs.GroupTwo.{laid, onward-end, few-end}
-use Rattle.reading.proofs.PlaceFits.{room-true}
 use Rattle.reading.proofs.TableRows.{areas-held, tables-held}
 
 -- ------------------------------------------------------------------ small answers
@@ -85,7 +86,8 @@ pub ruleset answers = (needs, accept-finished, accept-stopped, header-refused, h
 -- ------------------------------------------------------------------ rows out
 
 pub fixups-out : {k n : ℕ} {rows out out′ : List ℕ} {r : place.Grouped} → Regrouped k n rows out r out′ → 9 * k ≤ length rows → 9 * k ≤ length out → out′ ≡ over (areasFor n 0 (fixupsIn rows k)) out
-fixups-out {k} {n} {rows} {out} w h i = rw (room-true k rows out h i) at (w .stored)
+unfolding roomFor
+fixups-out {k} {n} {rows} {out} w h i = rw (le-leb (9 * k) (length rows) h, le-leb (9 * k) (length out) i) at (w .stored)
 
 pub tables-out : {c : Counts} {xs ys areas symbols areas′ symbols′ : List ℕ} → areas′ ≡ sets areas 0 (take (6 * c .areas) xs) → symbols′ ≡ sets symbols 0 (take (5 * c .symbols) ys)
     → TablesOut c xs ys areas symbols areas′ symbols′
@@ -209,9 +211,12 @@ module _ {text : List ℕ} (d : Found) {xs : List ℕ} {s : Sizes} (u : Begun te
   pub start-ready : Ready text xs g
   start-ready = rw e (go (ltb 65536 (s .total)) refl)
     where
+      none-yet : noHome (d .areas) ≡ homeAt xs (d .areas) (d .areas)
+      none-yet = home-past xs (d .areas) (d .areas) refl (u .areas-low) (omega arith)
+
       go : (b : Bool) → ltb 65536 (s .total) ≡ b → Ready text xs (pick b (goingAt d 0 (d .more) (Kept 9 0)) (goingAt d (s .total) (d .more) (Made 0)))
-      go true k = record { inside = u .inside; low = omega arith; areas-low = u .areas-low; symbols-low = u .symbols-low; sound = tt }
-      go false k = record { inside = u .inside; low = omega arith; areas-low = u .areas-low; symbols-low = u .symbols-low; sound = (omega arith, omega (arith, u .sizes .total-is, ltb-false 65536 (s .total) k)) }
+      go true k = record { inside = u .inside; low = omega arith; areas-low = u .areas-low; symbols-low = u .symbols-low; sound = tt; homed = none-yet }
+      go false k = record { inside = u .inside; low = omega arith; areas-low = u .areas-low; symbols-low = u .symbols-low; sound = (omega arith, omega (arith, u .sizes .total-is, ltb-false 65536 (s .total) k)); homed = none-yet }
 
   pub start-short : length text ≤ 65536
   start-short = u .short

@@ -5,6 +5,5 @@ pub mod KeptSizes
 pub mod Laid
 pub mod Opening
 pub mod PairLines
-pub mod PlaceFits
 pub mod TableRows
 pub mod WayIn

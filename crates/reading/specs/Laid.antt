@@ -20,6 +20,7 @@ use Rattle.format.specs.Held.{Held}
 use Rattle.laws.specs.Places.{pairsAt, recordsAt}
 use Rattle.laws.specs.Rows.{areasIn, tablesIn, fixupsIn}
 use Rattle.place.specs.Group.{areasFor}
+use Rattle.homes.specs.Home.{noHome}
 use Rattle.reading.specs.Answer.{told, toldCounts}
 use Rattle.reading.specs.GroupOne.{Hold}
 use Rattle.reading.specs.Onward.{Ended, GroupedTwo, endsOf, onward}
@@ -45,7 +46,7 @@ pub record SizesAre (areas : List ℕ) (n : ℕ) (r : Sizes) : Type 0 where
 -- group two before its first pair
 abbrev pub goingAt : Found → (positions : ℕ) → Bool → Standing → Going
 goingAt d n on s =
-    record { areas = d .areas; symbols = d .symbols; positions = n; next = d .next; stop = d .stop; lines = 0; on = on; standing = s }
+    record { areas = d .areas; symbols = d .symbols; positions = n; next = d .next; stop = d .stop; lines = 0; on = on; standing = s; home = noHome (d .areas) }
 
 abbrev pub startingOf : Found → (total : ℕ) → Going
 startingOf d z = pick (ltb 65536 z) (goingAt d 0 (d .more) (Kept 9 0)) (goingAt d z (d .more) (Made 0))

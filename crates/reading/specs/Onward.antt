@@ -18,7 +18,9 @@ use Rattle.laws.specs.Rows.{areasIn, tablesIn, stateOf}
 use Rattle.mode.specs.Class.{classTable}
 use Rattle.text.specs.Told.{moreOf}
 use Rattle.text.specs.declared.Form as text
+use Rattle.homes.specs.Home.{homeAt}
 use Rattle.place.specs.Pair.{pairOf}
+use Rattle.homes.specs.declared.Home.{Home}
 use Rattle.place.specs.declared.pair.Filled.{Filled}
 use Rattle.place.specs.declared.pair.Line.{Line}
 use Rattle.place.specs.declared.pair.Placed as place
@@ -87,11 +89,11 @@ afterOf g = pick (g .on) (Goes g) (Done (endingOf g))
 
 abbrev pub steppedOf : Going → (lines end next : ℕ) → Bool → Going
 steppedOf g lines end next on =
-    record { areas = g .areas; symbols = g .symbols; positions = g .positions; next = next; stop = end; lines = lines; on = on; standing = g .standing }
+    record { areas = g .areas; symbols = g .symbols; positions = g .positions; next = next; stop = end; lines = lines; on = on; standing = g .standing; home = g .home }
 
-abbrev pub standingIn : Going → Standing → Going
-standingIn g s =
-    record { areas = g .areas; symbols = g .symbols; positions = g .positions; next = g .next; stop = g .stop; lines = g .lines; on = g .on; standing = s }
+abbrev pub standingIn : Going → Home → Standing → Going
+standingIn g h s =
+    record { areas = g .areas; symbols = g .symbols; positions = g .positions; next = g .next; stop = g .stop; lines = g .lines; on = g .on; standing = s; home = h }
 
 abbrev pub overOf : (number place : ℕ) → Plan
 overOf n p = Leave (Done (Rejected n p))
@@ -136,6 +138,7 @@ pub record Ready (text areas : List ℕ) (g : Going) : Type 0 where
   pub areas-low : g .areas ≤ 64
   pub symbols-low : g .symbols ≤ 1024
   pub sound : Sound areas (g .areas) (g .standing)
+  pub homed : g .home ≡ homeAt areas (g .areas) (g .home .area)
 
 -- what is lent to a turn for a pair's bytes and the columns of its fragments
 pub record Columns (b ms es xs : List ℕ) : Type 0 where
@@ -154,14 +157,17 @@ pub record PlaceReady (l : Line) (g : Going) (table bytes areas rows : List ℕ)
   pub areas-low : g .areas ≤ 64
   pub symbols-low : g .symbols ≤ 1024
   pub sound : Sound areas (g .areas) (g .standing)
+  pub homed : g .home ≡ homeAt areas (g .areas) (g .home .area)
   pub room : 9216 ≤ length rows
 
 -- a pair was placed, or a refusal is kept
 pub record Advances (l : Line) (g : Going) (bytes ms es xs areas symbols vs fs rows : List ℕ) (r : Turn) (vs′ fs′ rows′ : List ℕ) : Type 0 where
   pub standing : Standing
-  pub answered : r ≡ afterOf (standingIn g standing)
+  pub home : Home
+  pub answered : r ≡ afterOf (standingIn g home standing)
   pub says : (radix end : ℕ) → stands standing vs′ fs′ rows′ ≡ andThen (stands (g .standing) vs fs rows) (λ s. pairOf l bytes ms es xs areas symbols (filledOf g 0) s radix end)
   pub sound : Sound areas (g .areas) standing
+  pub homed : home ≡ homeAt areas (g .areas) (home .area)
 
 -- what a turn leaves to do
 pub record GoesOn (ended : Bool) (f : Form) (text areas symbols : List ℕ) (p : ℕ) (o : Outcome Ended) (g : Going) (vs ms rows : List ℕ) : Type 0 where

@@ -5,6 +5,7 @@ ghost use Rattle.text.specs.Told.{moreOf};
 ghost use Rattle.reading.specs.Onward.{endingOf, afterOf, steppedOf, standingIn, overOf, placedOf, planOf, turnOf};
 use crate::pair::Body;
 use crate::pair::PairStep;
+use homes::Home;
 use place::Line;
 use text::Form;
 use text::Width;
@@ -15,7 +16,7 @@ pub(crate) enum Standing {
     Kept { number: u32, place: usize },
 }
 
-// Where group two is: how many areas, symbols and positions there are, where the next line begins, where the last record ended, how many T and R pairs there were, whether the reading goes on, and how placing stands.
+// Where group two is: how many areas, symbols and positions there are, where the next line begins, where the last record ended, how many T and R pairs there were, whether the reading goes on, how placing stands, and the home of the area of the last pair that was placed.
 pub(crate) struct Going {
     pub(crate) areas: usize,
     pub(crate) symbols: usize,
@@ -25,6 +26,7 @@ pub(crate) struct Going {
     pub(crate) lines: usize,
     pub(crate) on: bool,
     pub(crate) standing: Standing,
+    pub(crate) home: Home,
 }
 
 // How many T and R pairs there are, where the records end, and how many fixup rows are made; or a refusal.
@@ -86,6 +88,7 @@ fn stepped(g: Going, lines: usize, end: usize, next: usize, on: bool) -> Going
     ensures { λ r. ⌜ r ≡ steppedOf g lines end next on ⌝ }
 {
     let standing = g.standing;
+    let home = g.home;
     Going {
         areas: g.areas,
         symbols: g.symbols,
@@ -95,12 +98,13 @@ fn stepped(g: Going, lines: usize, end: usize, next: usize, on: bool) -> Going
         lines: lines,
         on: on,
         standing: standing,
+        home: home,
     }
 }
 
-// The same with placing at another standing.
-pub(crate) fn standing_in(going: Going, standing: Standing) -> Going
-    ensures { λ r. ⌜ r ≡ standingIn going standing ⌝ }
+// The same with placing at another standing, behind a pair of an area with this home.
+pub(crate) fn standing_in(going: Going, home: Home, standing: Standing) -> Going
+    ensures { λ r. ⌜ r ≡ standingIn going home standing ⌝ }
 {
     Going {
         areas: going.areas,
@@ -111,6 +115,7 @@ pub(crate) fn standing_in(going: Going, standing: Standing) -> Going
         lines: going.lines,
         on: going.on,
         standing: standing,
+        home: home,
     }
 }
 

@@ -11,12 +11,19 @@ use crate::plan::Going;
 use crate::plan::Standing;
 use crate::plan::Two;
 use crate::plan::ending;
+use homes::Home;
 use text::Form;
 
-// Group two before its first pair, over so many positions.
+// Group two before its first pair, over so many positions. The home is that of the index behind the last area, which is none.
 fn going_at(found: Found, positions: usize, on: bool, standing: Standing) -> Going
     ensures { λ r. ⌜ r ≡ goingAt found positions on standing ⌝ }
 {
+    let home = Home {
+        area: found.areas,
+        id: 0,
+        start: 0,
+        size: 0,
+    };
     Going {
         areas: found.areas,
         symbols: found.symbols,
@@ -26,6 +33,7 @@ fn going_at(found: Found, positions: usize, on: bool, standing: Standing) -> Goi
         lines: 0,
         on: on,
         standing: standing,
+        home: home,
     }
 }
 

@@ -3,6 +3,7 @@ ghost use mathlib.Core.Path.{_≡_};
 ghost use Prim.Native.Nat.{_≤_};
 ghost use lib.ListN.{length};
 ghost use Rattle.mode.specs.Class.{classTable};
+ghost use Rattle.homes.specs.Home.{homeAt};
 ghost use Rattle.text.specs.Told.{formOf};
 ghost use Rattle.reading.specs.Onward.{standingOf, filledOf, Ready, PlaceReady, Columns, Advances, TurnIs, onwardAt};
 use crate::pair::pair_step;
@@ -14,6 +15,7 @@ use crate::plan::after;
 use crate::plan::plan_of;
 use crate::plan::standing_in;
 use crate::plan::turn_of;
+use homes::Home;
 use place::Filled;
 use place::Line;
 use place::Placed;
@@ -47,6 +49,18 @@ fn filled_of(g: Going, fixups: usize) -> Filled
     }
 }
 
+// The home of an area: that of the last pair, if its area is the same.
+fn home_for(areas: &[u32], going: Going, area: usize) -> Home
+    requires { ⌜ going .home ≡ homeAt (now areas) (going .areas) (going .home .area) ⌝ }
+    ensures { λ r. ⌜ r ≡ homeAt (now (areas .entry)) (going .areas) area ⌝ }
+{
+    let last = going.home;
+    if last.area == area {
+        return last;
+    }
+    homes::home_at(areas, going.areas, area)
+}
+
 // A pair placed, if no refusal is kept.
 fn place_body(
     line: Line,
@@ -67,12 +81,14 @@ fn place_body(
 {
     let s = going.standing;
     let Standing::Made { fixups } = s else {
-        return after(standing_in(going, s));
+        return after(standing_in(going, going.home, s));
     };
     let filled = filled_of(going, fixups);
+    let home = home_for(areas, going, line.area);
     let r = place::place_pair(
         table,
         line,
+        home,
         bytes,
         ms,
         es,
@@ -84,7 +100,7 @@ fn place_body(
         masks,
         rows,
     );
-    after(standing_in(going, standing_of(r)))
+    after(standing_in(going, home, standing_of(r)))
 }
 
 // One turn: the pair at the place where group two is. What was lent for its bytes and fragments may hold those of the pair before.

@@ -7,6 +7,7 @@ pub mod Numbers
 pub mod Short
 pub mod Many
 pub mod Lists
+pub mod Begun
 pub mod Joined
 pub mod Joins
 pub mod Lines

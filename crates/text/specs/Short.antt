@@ -1,17 +1,22 @@
--- What the short ways find: a byte of two capital digits of radix 16, where the answer is below 256.
+-- What the short ways find: a 0 that stands alone, and a byte of two capital digits of radix 16, where the answer is below 256.
 -- Assumes nothing.
-use Prim.Native.Nat.{ℕ, _+_, _<_, _≤_}
+use Prim.Native.Nat.{ℕ, _+_, _-_, _<_, _≤_}
 use mathlib.Core.Path.{_≡_}
-use mathlib.Core.Bool.{Bool}
+use mathlib.Core.Bool.{Bool, true}
 use mathlib.Core.List.{List}
 use lib.ListN.{length, getD}
 use Rattle.format.specs.Bytes.{worth}
-use Rattle.format.specs.Number.{byte, nextByte, joined}
+use Rattle.format.specs.Number.{number, byte, nextByte, joined}
 use Rattle.format.specs.Got.{is}
 
 -- a digit of radix 16, where the answer is below 16
 pub record Hex (b d : ℕ) : Type 0 where
   pub digit : d < 16 → d ≡ worth b
+
+-- a 0 that stands alone, where the answer is yes
+pub record Zero (radix : ℕ) (s : List ℕ) (at : ℕ) (r : Bool) : Type 0 where
+  pub inside : r ≡ true → at < length s
+  pub got : r ≡ true → is 0 (at + 1) ≡ number radix s at
 
 -- two digits with no third behind them
 pub record Two (s : List ℕ) (at v : ℕ) : Type 0 where
@@ -27,6 +32,13 @@ pub record Short (radix : ℕ) (s : List ℕ) (at v : ℕ) : Type 0 where
 pub record Spaced (radix : ℕ) (s : List ℕ) (at v : ℕ) : Type 0 where
   pub inside : v < 256 → at + 3 ≤ length s
   pub got : v < 256 → nextByte radix s at ≡ is v (at + 3)
+
+-- a place before which spaced bytes may stand from another place on, or 0: three bytes of the text are behind any place before it, and 256 spaced bytes go no further
+pub record Reach (radix : ℕ) (s : List ℕ) (at last : ℕ) : Type 0 where
+  pub sixteen : 0 < last → radix ≡ 16
+  pub space : 0 < last → getD s at 0 ≡ 32
+  pub inside : last ≤ length s - 3
+  pub few : last ≤ at + 768
 
 -- n + 1 bytes joined, up to a place, where the answer is below a limit
 pub record Joins (radix : ℕ) (big : Bool) (n : ℕ) (s : List ℕ) (at next limit v : ℕ) : Type 0 where

@@ -5,7 +5,7 @@ ghost use Rattle.text.specs.Short.{Hex, Two, Short, Spaced};
 use crate::kinds::byte_at;
 
 // What a byte is worth as a capital digit of radix 16, or a number above 15 where it is none.
-fn hex_of(b: u8) -> u64
+pub(crate) fn hex_of(b: u8) -> u64
     ensures { λ r. ⌜ Hex b r ⌝ }
 {
     let x = b as u64;
@@ -13,7 +13,7 @@ fn hex_of(b: u8) -> u64
         return std::num::wrapping_sub_u64(x, 48);
     }
     if x < 65 {
-        return 255;
+        return x;
     }
     x - 55
 }

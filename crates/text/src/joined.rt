@@ -49,6 +49,22 @@ fn joined_of(t: &[u8], at: usize, radix: u8, big: bool, n: usize) -> Num
     }
 }
 
+// An answer taken apart and made anew, so that a function with a short way and a long one makes its answer itself in both.
+fn anew(n: Num) -> Num
+    ensures { λ r. ⌜ r ≡ n ⌝ }
+{
+    match n {
+        Num::Is { value, next } => Num::Is {
+            value: value,
+            next: next,
+        },
+        Num::No { reason, at } => Num::No {
+            reason: reason,
+            at: at,
+        },
+    }
+}
+
 // Two bytes as one number. The common form is read at once.
 fn two_of(t: &[u8], at: usize, radix: u8, big: bool) -> Num
     ensures { λ r. ⌜ told r ≡ joinedAt radix big 1 (now (t .entry)) at ⌝ }
@@ -60,7 +76,7 @@ fn two_of(t: &[u8], at: usize, radix: u8, big: bool) -> Num
             next: at + 5,
         };
     }
-    joined_of(t, at, radix, big, 1)
+    anew(joined_of(t, at, radix, big, 1))
 }
 
 // Three bytes as one number. The common form is read at once.
@@ -74,7 +90,7 @@ fn three_of(t: &[u8], at: usize, radix: u8, big: bool) -> Num
             next: at + 8,
         };
     }
-    joined_of(t, at, radix, big, 2)
+    anew(joined_of(t, at, radix, big, 2))
 }
 
 // An address: as many bytes as the header says.

@@ -53,7 +53,36 @@ fn low_of_eight(t: &[u8], i: usize) -> bool
     low(t[i + 7], g)
 }
 
-// A place in the same line, behind as many eights as have no low byte.
+// A place in the same line as the first of eight bytes, of which one is low: behind those that are no control characters.
+fn past_few(t: &[u8], i: usize) -> usize
+    requires { ⌜ i + 8 ≤ length (now t) ⌝ }
+    ensures { λ r. ⌜ OneLine (now (t .entry)) i r ⌝ }
+{
+    if t[i] < 32 {
+        return i;
+    }
+    if t[i + 1] < 32 {
+        return i + 1;
+    }
+    if t[i + 2] < 32 {
+        return i + 2;
+    }
+    if t[i + 3] < 32 {
+        return i + 3;
+    }
+    if t[i + 4] < 32 {
+        return i + 4;
+    }
+    if t[i + 5] < 32 {
+        return i + 5;
+    }
+    if t[i + 6] < 32 {
+        return i + 6;
+    }
+    i + 7
+}
+
+// A place in the same line, behind as many bytes as have no low one among them.
 fn past_eights(t: &[u8], at: usize) -> usize
     ensures { λ r. ⌜ OneLine (now (t .entry)) at r ⌝ }
 {
@@ -63,7 +92,7 @@ fn past_eights(t: &[u8], at: usize) -> usize
     let mut i = at;
     while 8 <= t.len() - i {
         if low_of_eight(t, i) {
-            return i;
+            return past_few(t, i);
         }
         i += 8;
     }

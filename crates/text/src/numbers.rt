@@ -3,11 +3,13 @@ ghost use mathlib.Core.Path.{_≡_};
 ghost use Prim.Native.Nat.{_+_, _*_, _<_, _≤_, min};
 ghost use Rattle.format.specs.Bytes.{worth};
 ghost use Rattle.format.specs.Number.{valued, number, byte, nextByte};
+ghost use Rattle.text.specs.Short.{Zero};
 ghost use Rattle.text.specs.Told.{told};
 use crate::Kind;
 use crate::Num;
 use crate::hex::short_byte;
 use crate::hex::spaced_byte;
+use crate::kinds::byte_at;
 use crate::kinds::past_kind;
 
 // What a byte is worth as a digit: 0 to 15, or 255 where it is none.
@@ -64,8 +66,24 @@ fn number_from(at: usize, next: usize, v: u64) -> Num
     Num::No { reason: 2, at: at }
 }
 
+// Whether a 0 of radix 16 stands alone, as most numbers of A lines do.
+fn lone_zero(t: &[u8], at: usize, radix: u8) -> bool
+    ensures { λ r. ⌜ Zero radix (now (t .entry)) at r ⌝ }
+{
+    if radix != 16 {
+        return false;
+    }
+    if t.len() <= at {
+        return false;
+    }
+    if t[at] != 48 {
+        return false;
+    }
+    byte_at(t, at + 1) < 48
+}
+
 // The longest run of digits, as a number below 2^32.
-pub fn parse_number(t: &[u8], at: usize, radix: u8) -> Num
+fn any_number(t: &[u8], at: usize, radix: u8) -> Num
     ensures { λ r. ⌜ told r ≡ number radix (now (t .entry)) at ⌝ }
 {
     let base = radix as u64;
@@ -82,11 +100,24 @@ pub fn parse_number(t: &[u8], at: usize, radix: u8) -> Num
     number_from(at, i, v)
 }
 
+// The same. A 0 that stands alone is read at once.
+pub fn parse_number(t: &[u8], at: usize, radix: u8) -> Num
+    ensures { λ r. ⌜ told r ≡ number radix (now (t .entry)) at ⌝ }
+{
+    if lone_zero(t, at, radix) {
+        return Num::Is {
+            value: 0,
+            next: at + 1,
+        };
+    }
+    any_number(t, at, radix)
+}
+
 // A number below 256, of any length.
 fn any_byte(t: &[u8], at: usize, radix: u8) -> Num
     ensures { λ r. ⌜ told r ≡ byte radix (now (t .entry)) at ⌝ }
 {
-    let n = parse_number(t, at, radix);
+    let n = any_number(t, at, radix);
     let Num::Is { value, next } = n else {
         return n;
     };

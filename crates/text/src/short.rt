@@ -51,14 +51,14 @@ pub(crate) fn short_three(t: &[u8], at: usize, radix: u8, big: bool) -> u64
         return 16777216;
     }
     let a = two_digits(t, at);
+    let b = two_digits(t, at + 3);
+    let c = two_digits(t, at + 6);
     if 255 < a {
         return 16777216;
     }
-    let b = two_digits(t, at + 3);
     if 255 < b {
         return 16777216;
     }
-    let c = two_digits(t, at + 6);
     if 255 < c {
         return 16777216;
     }

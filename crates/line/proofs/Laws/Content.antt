@@ -23,19 +23,25 @@ use Rattle.line.specs.declared.Place.{Place}
 use Rattle.line.specs.declared.Place.the-variants.{At, Not}
 use Rattle.line.specs.Told.{went}
 use Rattle.text.specs.Many.{BytesRead}
+use Rattle.line.specs.Usual.{Led}
 use Rattle.line.specs.Pairs.{Sized, sized, bytesIn, counted, toldContent, Contents}
 use Rattle.line.specs.declared.ContentLine.{ContentLine}
 use Rattle.line.specs.declared.ContentLine.the-variants.{Content, NoContent}
 
 -- `address_part`
-module _ (radix : ℕ) (big : Bool) (n : ℕ) (s : List ℕ) {l : Place} (e : went l ≡ lead (spelled T) s 0) where
-  pub address-1 : {r p : ℕ} → l ≡ Not r p → isnt r p ≡ addressPart (record { radix = radix; big = big; addressLength = suc n }) s 0
+module _ (radix : ℕ) (big : Bool) (n : ℕ) (s : List ℕ) where
+  pub address-usual : {r : Bool} → Led (spelled T) s 0 2 r → r ≡ true → {x : Got ℕ} → x ≡ joined radix big n s 2 → x ≡ addressPart (record { radix = radix; big = big; addressLength = suc n }) s 0
   unfolding addressPart
-  address-1 g = rw (← e, g)
+  address-usual u g i = let z : suc n - 1 ≡ n = omega arith in rw (z, u .read g) i
 
-  pub address-2 : {p : ℕ} → l ≡ At p → {x : Got ℕ} → x ≡ joined radix big n s p → x ≡ addressPart (record { radix = radix; big = big; addressLength = suc n }) s 0
-  unfolding addressPart
-  address-2 g i = let z : suc n - 1 ≡ n = omega arith in rw (z, ← e, g) i
+  module _ {l : Place} (e : went l ≡ lead (spelled T) s 0) where
+    pub address-1 : {r p : ℕ} → l ≡ Not r p → isnt r p ≡ addressPart (record { radix = radix; big = big; addressLength = suc n }) s 0
+    unfolding addressPart
+    address-1 g = rw (← e, g)
+
+    pub address-2 : {p : ℕ} → l ≡ At p → {x : Got ℕ} → x ≡ joined radix big n s p → x ≡ addressPart (record { radix = radix; big = big; addressLength = suc n }) s 0
+    unfolding addressPart
+    address-2 g i = let z : suc n - 1 ≡ n = omega arith in rw (z, ← e, g) i
 
 -- `parse_content`
 module _ (f : Form) (s room : List ℕ) {a : Num} (e : told a ≡ addressPart f s 0) where
@@ -48,7 +54,7 @@ module _ (f : Form) (s room : List ℕ) {a : Num} (e : told a ≡ addressPart f 
   unfolding contentLine
   content-2 g i = record { answered = rw (← e, g, i .ran .counted, i .ran .reached); stored = rw (← e, g, i .stored) }
 
-pub ruleset contents = (needs, address-1, address-2, content-1, content-2)
+pub ruleset contents = (needs, address-usual, address-1, address-2, content-1, content-2)
 
 -- the answer and its case say what the definition read
 pub content-is : (m : Got the.Content) {a n u : ℕ} → is (sized a n) u ≡ counted m → m ≡ is (record { address = a; bytes = bytesIn m }) u

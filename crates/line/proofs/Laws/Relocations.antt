@@ -1,8 +1,8 @@
 -- The R line.
 -- Assumes nothing.
 use Prim.Native.Nat.{ℕ}
-use mathlib.Core.Path.{_≡_, refl}
-use mathlib.Core.Bool.{Bool}
+use mathlib.Core.Path.{_≡_, refl, sym, _∙_}
+use mathlib.Core.Bool.{Bool, true}
 use mathlib.Core.List.{List}
 use native.Mathlib.Omega.{arith}
 use lib.ListN.{length}
@@ -21,6 +21,7 @@ use Rattle.text.specs.declared.Num.the-variants.{Is, No}
 use Rattle.line.specs.declared.Place.{Place}
 use Rattle.line.specs.declared.Place.the-variants.{At, Not}
 use Rattle.line.specs.Told.{went}
+use Rattle.line.specs.Usual.{Zeroed}
 use Rattle.line.specs.Pairs.{sized, counted, fragmentsIn, numbered, FragmentsRead, Relocations}
 use Rattle.line.specs.declared.RelocationLine.the-variants.{Relocation, NoRelocation}
 
@@ -41,6 +42,9 @@ module _ (radix : ℕ) (big : Bool) (s : List ℕ) (at : ℕ) {i : Num} (e : tol
 pub ruleset zeros = (needs, zero-1, zero-2, zero-3)
 
 -- `area_part`
+pub part-usual : (f : Form) (s : List ℕ) {r : Bool} → Zeroed (f .radix) s r → r ≡ true → {x : Got ℕ} → x ≡ index (f .radix) (f .big) s 8 → x ≡ areaPart f s 0
+part-usual f s u g i = i ∙ sym (u .read g (f .big) (f .addressLength))
+
 module _ (f : Form) (s : List ℕ) {l : Place} (e : went l ≡ lead (spelled R) s 0) where
   pub part-1 : {r p : ℕ} → l ≡ Not r p → isnt r p ≡ areaPart f s 0
   unfolding areaPart
@@ -66,7 +70,7 @@ module _ (f : Form) (s : List ℕ) {a : Num} (e : told a ≡ areaPart f s 0) whe
   unfolding relocationLine
   relocation-2 g i j = record { answered = rw (j, i .ran .counted, i .ran .reached, ← e, g); stored = rw (← e, g) (i .stored) }
 
-pub ruleset relocating = (needs, part-1, part-2, part-3, relocation-1, relocation-2)
+pub ruleset relocating = (needs, part-usual, part-1, part-2, part-3, relocation-1, relocation-2)
 
 -- the answer and its case say what the definition read
 pub relocation-is : (m : Got the.Relocation) {a n u : ℕ} → is (sized a n) u ≡ numbered m → m ≡ is (record { area = a; fragments = fragmentsIn m }) u

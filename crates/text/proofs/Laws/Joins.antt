@@ -11,10 +11,11 @@ use mir.Syntax.{w64}
 use borrow.Author.Needs.{needs}
 use Rattle.format.specs.Number.{byte, joined}
 use Rattle.format.specs.Got.{Got, is}
-use Rattle.text.specs.Told.{moreOf}
+use Rattle.text.specs.Told.{told, moreOf}
 use Rattle.text.specs.Short.{Two, Joins}
 use Rattle.text.specs.Steps.{joinStep}
 use Rattle.text.specs.declared.Width.{Width}
+use Rattle.text.specs.declared.Num.{Num}
 use Rattle.text.specs.declared.Num.the-variants.{Is}
 use Rattle.text.proofs.Laws.Joined.{Joining, joined-start, joined-more, joined-end, index-is}
 use Rattle.text.proofs.Laws.Short.{spaced-is}
@@ -63,8 +64,12 @@ module _ (radix : ℕ) (big : Bool) (n : ℕ) (s : List ℕ) (at next : ℕ) {li
   pub joins-fits : length s < 2 ^ 64 → Fits w64 next
   joins-fits k = record { fits = omega (arith, w .inside h) }
 
+-- an answer made anew
+pub anew-joined : (radix : ℕ) (big : Bool) (n : ℕ) (s : List ℕ) (at : ℕ) {a r : Num} → r ≡ a → told a ≡ joined radix big n s at → told r ≡ joined radix big n s at
+anew-joined radix big n s at e f = rw e f
+
 -- the arm of the width
 pub width-is : (radix : ℕ) (big : Bool) (s : List ℕ) (at : ℕ) {w m : Width} {r : Got ℕ} → w ≡ m → r ≡ joined radix big (moreOf m) s at → r ≡ joined radix big (moreOf w) s at
 width-is radix big s at e f = rw e f
 
-pub ruleset widths = (needs, joins-is, joins-fits, width-is, index-is)
+pub ruleset widths = (needs, joins-is, joins-fits, anew-joined, width-is, index-is)

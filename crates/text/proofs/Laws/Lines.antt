@@ -112,14 +112,65 @@ module _ (s : List ℕ) (p : ℕ) where
 
 pub ruleset eights = (needs, eight-is)
 
--- `past_eights`
 pub line-start : (s : List ℕ) (p : ℕ) → OneLine s p p
 line-start s p = record { same = refl }
+
+-- `past_few`
+module _ (s : List ℕ) (p : ℕ) (l : p + 8 ≤ length s) (h₀ : 32 ≤ getD s p 0) where
+  s1 : Spans inner s p (p + 1)
+  s1 = one-more s p (span-start inner s p) (omega arith) (omega arith) refl
+
+  pub few-1 : OneLine s p (p + 1)
+  few-1 = record { same = s1 .whole }
+
+  module _ (h₁ : 32 ≤ getD s (p + 1) 0) where
+    s2 : Spans inner s p (p + 2)
+    s2 = one-more s p s1 (omega arith) (omega arith) (omega arith)
+
+    pub few-2 : OneLine s p (p + 2)
+    few-2 = record { same = s2 .whole }
+
+    module _ (h₂ : 32 ≤ getD s (p + 2) 0) where
+      s3 : Spans inner s p (p + 3)
+      s3 = one-more s p s2 (omega arith) (omega arith) (omega arith)
+
+      pub few-3 : OneLine s p (p + 3)
+      few-3 = record { same = s3 .whole }
+
+      module _ (h₃ : 32 ≤ getD s (p + 3) 0) where
+        s4 : Spans inner s p (p + 4)
+        s4 = one-more s p s3 (omega arith) (omega arith) (omega arith)
+
+        pub few-4 : OneLine s p (p + 4)
+        few-4 = record { same = s4 .whole }
+
+        module _ (h₄ : 32 ≤ getD s (p + 4) 0) where
+          s5 : Spans inner s p (p + 5)
+          s5 = one-more s p s4 (omega arith) (omega arith) (omega arith)
+
+          pub few-5 : OneLine s p (p + 5)
+          few-5 = record { same = s5 .whole }
+
+          module _ (h₅ : 32 ≤ getD s (p + 5) 0) where
+            s6 : Spans inner s p (p + 6)
+            s6 = one-more s p s5 (omega arith) (omega arith) (omega arith)
+
+            pub few-6 : OneLine s p (p + 6)
+            few-6 = record { same = s6 .whole }
+
+            pub few-7 : 32 ≤ getD s (p + 6) 0 → OneLine s p (p + 7)
+            few-7 h₆ = record { same = one-more s p s6 (omega arith) (omega arith) {j = p + 7} (omega arith) .whole }
+
+pub ruleset few = (needs, line-start, few-1, few-2, few-3, few-4, few-5, few-6, few-7)
+
+-- `past_eights`
+pub line-so-far : {s : List ℕ} {p i r : ℕ} → OneLine s p i → OneLine s i r → OneLine s p r
+line-so-far w e = record { same = w .same ∙ e .same }
 
 pub line-on : {s : List ℕ} {p i : ℕ} {r : Bool} → OneLine s p i → Eight s i r → r ≡ false → OneLine s p (i + 8)
 line-on w e z = record { same = w .same ∙ e .on z .same }
 
-pub ruleset scanning = (needs, line-start, line-on)
+pub ruleset scanning = (needs, line-start, line-so-far, line-on)
 
 -- `line_at`
 end-within : (xs : List ℕ) → endLength xs ≤ length xs

@@ -1,19 +1,20 @@
--- Bytes of two digits of radix 16: what the definition answers where they stand.
+-- A 0 that stands alone, and bytes of two digits of radix 16: what the definition answers where they stand.
 -- Assumes nothing.
 use Prim.Native.Nat.{ℕ, _+_, _*_, _-_, _<_, _≤_, _^_, _%_}
 use mathlib.Core.Path.{_≡_, refl, sym, _∙_}
-use mathlib.Core.Bool.{false}
+use mathlib.Core.Bool.{Bool, true, false}
 use mathlib.Core.List.{List}
 use native.Mathlib.Omega.{arith}
+use lib.Dec.{ltb}
 use lib.ListN.{length, getD}
 use mir.Val.{Fits}
 use mir.Syntax.{w64}
 use borrow.Author.Needs.{needs}
-use borrow.Author.Tests.{lt-ltb, le-ltb, le-leb, lt-leb, ne-eqb}
+use borrow.Author.Tests.{lt-ltb, le-ltb, le-leb, lt-leb, ne-eqb, ltb-true}
 use Rattle.format.specs.Bytes.{worth, isBlank}
 use Rattle.format.specs.Number.{valued, number, byte, nextByte, past}
 use Rattle.format.specs.Got.{is}
-use Rattle.text.specs.Short.{Hex, Two, Short, Spaced}
+use Rattle.text.specs.Short.{Hex, Zero, Two, Short, Spaced}
 use Rattle.text.proofs.Laws.Tests.{by-order}
 use Rattle.text.proofs.Laws.Kinds.{blank-1, blank-2, span-start, span-more, span-stop}
 use Rattle.text.proofs.Laws.Numbers.{Digits, digits-start, digits-more, digits-stop, digits-end, next-2}
@@ -35,13 +36,50 @@ module _ (b : ℕ) where
   pub hex-ten : {d : ℕ} → b < 58 → (d + 48) % 2 ^ 64 ≡ b → d < 2 ^ 64 → Hex b d
   hex-ten {d} h e f = record { digit = λ l. let g : d ≡ b - 48 = omega arith in g ∙ worth-ten (omega arith) (omega arith) }
 
-  pub hex-none : Hex b 255
-  hex-none = record { digit = λ l. absurd (omega arith) }
+  pub hex-none : 58 ≤ b → Hex b b
+  hex-none h = record { digit = λ l. absurd (omega arith) }
 
   pub hex-capital : 65 ≤ b → Hex b (b - 55)
   hex-capital h = record { digit = λ l. worth-capital h (omega arith) }
 
 pub ruleset hexes = (needs, hex-ten, hex-none, hex-capital)
+
+-- `lone_zero`
+module _ (radix : ℕ) (s : List ℕ) (at : ℕ) where
+  pub zero-no : Zero radix s at false
+  zero-no = record { inside = λ e. absurd (unlike e); got = λ e. absurd (unlike e) }
+    where
+      unlike : false ≡ true → ⊥
+      unlike e = let z : _≡_ {A = ℕ} 0 1 = cc in omega arith
+
+  module _ (h : at < length s) (e : getD s at 0 ≡ 48) where
+    zero-read : Digits 16 s at 0 (at + 1)
+    zero-read =
+        let a : 0 ≡ worth (getD s at 0) = rw e (worth-ten 48 (omega arith) (omega arith)) in
+        digits-more (digits-start 16 s at) a h (omega arith) {x = 0} (omega arith)
+
+    zero-valued : is 0 (at + 1) ≡ valued at (at + 1) 0
+    zero-valued = rw (ne-eqb (at + 1) at (λ q. omega arith))
+
+    zero-number : getD s (at + 1) 0 < 48 → is 0 (at + 1) ≡ number 16 s at
+    zero-number m =
+        by-order (at + 1) (length s)
+        (λ o. digits-stop zero-read (worth-low (getD s (at + 1) 0) m) o (omega arith) zero-valued)
+        (λ o. digits-end zero-read o zero-valued)
+
+    pub zero-is : radix ≡ 16 → {c : ℕ} → c ≡ getD s (at + 1) 0 → Zero radix s at (ltb c 48)
+    zero-is r {c} f = record { inside = λ t. h; got = λ t. let l = ltb-true c 48 t in rw r (zero-number (omega arith)) }
+
+pub ruleset zeros = (needs, zero-no, zero-is)
+
+-- `parse_number`
+pub zero-got : {radix : ℕ} {s : List ℕ} {at : ℕ} {r : Bool} → Zero radix s at r → r ≡ true → is 0 (at + 1) ≡ number radix s at
+zero-got w e = w .got e
+
+pub zero-fits : {radix : ℕ} {s : List ℕ} {at : ℕ} {r : Bool} → Zero radix s at r → r ≡ true → length s < 2 ^ 64 → Fits w64 (at + 1)
+zero-fits w e k = record { fits = omega (arith, w .inside e) }
+
+pub ruleset numbers = (needs, zero-got, zero-fits)
 
 -- `two_digits`
 module _ (s : List ℕ) (at : ℕ) where

@@ -2,11 +2,8 @@ use Rattle.line.proofs.Laws.Areas.{addrs}
 use Rattle.line.proofs.areas.addr_at.Statement.{statement}
 use Rattle.line.proofs.areas.addr_at.Tie as tie
 
-slice-aggregate-field-at : tie.Need-slice-aggregate-field-at
-slice-aggregate-field-at c = search addrs
-
-field-at-requires : tie.Need-field-at-requires
-field-at-requires c κs = search addrs
+addr-field-requires : tie.Need-addr-field-requires
+addr-field-requires c κs = search addrs
 
 enum-known-value : tie.Need-enum-known-value
 enum-known-value c = search addrs
@@ -22,11 +19,4 @@ returns-2 c = search addrs
 
 pub addr-at-spec : {M : Type 1} → statement M
 addr-at-spec =
-    tie.close
-    (tie.spec
-    slice-aggregate-field-at
-    field-at-requires
-    enum-known-value
-    enum-told
-    returns
-    returns-2)
+    tie.close (tie.spec addr-field-requires enum-known-value enum-told returns returns-2)

@@ -2,11 +2,8 @@ use Rattle.line.proofs.Laws.Areas.{areas}
 use Rattle.line.proofs.areas.area_of.Statement.{statement}
 use Rattle.line.proofs.areas.area_of.Tie as tie
 
-slice-aggregate-field-at : tie.Need-slice-aggregate-field-at
-slice-aggregate-field-at c = search areas
-
-field-at-requires : tie.Need-field-at-requires
-field-at-requires c κs = search areas
+size-field-requires : tie.Need-size-field-requires
+size-field-requires c κs = search areas
 
 enum-known-z : tie.Need-enum-known-z
 enum-known-z c = search areas
@@ -20,11 +17,8 @@ halted-requires c κs = search areas
 returns : tie.Need-returns
 returns c = search areas
 
-slice-aggregate-field-at-2 : tie.Need-slice-aggregate-field-at-2
-slice-aggregate-field-at-2 c = search areas
-
-field-at-requires-2 : tie.Need-field-at-requires-2
-field-at-requires-2 c κs = search areas
+flags-field-requires : tie.Need-flags-field-requires
+flags-field-requires c κs = search areas
 
 enum-known-g : tie.Need-enum-known-g
 enum-known-g c = search areas
@@ -51,14 +45,12 @@ pub area-of-spec : {M : Type 1} → statement M
 area-of-spec =
     tie.close
     (tie.spec
-    slice-aggregate-field-at
-    field-at-requires
+    size-field-requires
     enum-known-z
     enum-told
     halted-requires
     returns
-    slice-aggregate-field-at-2
-    field-at-requires-2
+    flags-field-requires
     enum-known-g
     enum-told-2
     halted-requires-2

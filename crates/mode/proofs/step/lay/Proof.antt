@@ -1,77 +1,48 @@
-use Rattle.mode.proofs.StepLaws.{stepping}
-use Prim.Native.Nat.{_-_}
-use Rattle.mode.proofs.StepLaws.{Laying}
+use Rattle.mode.proofs.StepLaws.{laying}
 use Rattle.mode.proofs.step.lay.Statement.{statement}
 use Rattle.mode.proofs.step.lay.Tie as tie
-use Rattle.mode.proofs.step.lay.Reads as reads
-use Rattle.mode.proofs.step.lay.Lts as lts
-use Rattle.mode.proofs.step.cell_at.Reads as cell-at-reads
 
-abbrev Inv-loop : tie.InvT-loop
-Inv-loop op mask size t values₀ masks₀ kept₀ i₀ values masks kept i = Laying op mask size t values₀ masks₀ kept₀ values masks kept i
+lay-two-requires : tie.Need-lay-two-requires
+lay-two-requires c κs = search laying
 
-abbrev μ-loop : tie.MeasureT-loop
-μ-loop op mask size t values₀ masks₀ kept₀ i₀ values masks kept i = t - i
+same-length : tie.Need-same-length
+same-length c = search laying
 
-loop-holds : tie.Need-loop-holds Inv-loop μ-loop
-loop-holds c = search stepping
+same-length-2 : tie.Need-same-length-2
+same-length-2 c = search laying
 
-cell-at-requires : tie.Need-cell-at-requires Inv-loop μ-loop
-cell-at-requires c κs = search stepping
+same-length-3 : tie.Need-same-length-3
+same-length-3 c = search laying
 
-slice-write-values : tie.Need-slice-write-values Inv-loop μ-loop
-slice-write-values c = search stepping
+returns : tie.Need-returns
+returns c = search laying
 
-cell-at-requires-2 : tie.Need-cell-at-requires-2 Inv-loop μ-loop
-cell-at-requires-2 c κs = search stepping
+lay-two-requires-2 : tie.Need-lay-two-requires-2
+lay-two-requires-2 c κs = search laying
 
-slice-write-masks : tie.Need-slice-write-masks Inv-loop μ-loop
-slice-write-masks c = search stepping
+same-length-4 : tie.Need-same-length-4
+same-length-4 c = search laying
 
-cell-at-requires-3 : tie.Need-cell-at-requires-3 Inv-loop μ-loop
-cell-at-requires-3 c κs = search stepping
+same-length-5 : tie.Need-same-length-5
+same-length-5 c = search laying
 
-slice-write-kept : tie.Need-slice-write-kept Inv-loop μ-loop
-slice-write-kept c = search stepping
+same-length-6 : tie.Need-same-length-6
+same-length-6 c = search laying
 
-add-i : tie.Need-add-i Inv-loop μ-loop
-add-i c = search stepping
-
-loop-less : tie.Need-loop-less Inv-loop μ-loop
-loop-less c = search stepping
-
-loop-again : tie.Need-loop-again Inv-loop μ-loop
-loop-again c = search stepping
-
-same-length : tie.Need-same-length Inv-loop μ-loop
-same-length c = search stepping
-
-same-length-2 : tie.Need-same-length-2 Inv-loop μ-loop
-same-length-2 c = search stepping
-
-same-length-3 : tie.Need-same-length-3 Inv-loop μ-loop
-same-length-3 c = search stepping
-
-returns : tie.Need-returns Inv-loop μ-loop
-returns c = search stepping
+returns-2 : tie.Need-returns-2
+returns-2 c = search laying
 
 pub lay-spec : {M : Type 1} → statement M
 lay-spec =
     tie.close
     (tie.spec
-    Inv-loop
-    μ-loop
-    loop-holds
-    cell-at-requires
-    slice-write-values
-    cell-at-requires-2
-    slice-write-masks
-    cell-at-requires-3
-    slice-write-kept
-    add-i
-    loop-less
-    loop-again
+    lay-two-requires
     same-length
     same-length-2
     same-length-3
-    returns)
+    returns
+    lay-two-requires-2
+    same-length-4
+    same-length-5
+    same-length-6
+    returns-2)

@@ -21,6 +21,9 @@ returns c = search bodies
 filled-of-requires : tie.Need-filled-of-requires
 filled-of-requires c κs = search bodies
 
+home-for-requires : tie.Need-home-for-requires
+home-for-requires c κs = search bodies
+
 place-pair-requires : tie.Need-place-pair-requires
 place-pair-requires c κs = search bodies
 
@@ -43,7 +46,7 @@ same-length-3 : tie.Need-same-length-3
 same-length-3 c = search bodies
 
 returns-2 : tie.Need-returns-2
-returns-2 c = let p = c .before .before .before .before .before .before .before .before .before in let q = p .before .before .before .before .before .before .before .before in let s = q .before .before in let a = s .before .before .before .before .before .before .before in body-made (a .pre) _ _ _ _ _ _ (s .s .given .1) (q .filled-of .ensures) (p .place-pair .ensures) (c .before .before .standing-of .ensures) (c .before .standing-in2 .ensures) (c .after2 .ensures)
+returns-2 c = let p = c .before .before .before .before .before .before .before .before .before in let h = p .before .before .before .before .before .before .before .before in let q = h .before in let s = q .before .before in let a = s .before .before .before .before .before .before .before in body-made (a .pre) _ _ _ _ _ _ (s .s .given .1) (q .filled-of .ensures) (h .home-for .ensures) (p .place-pair .ensures) (c .before .before .standing-of .ensures) (c .before .standing-in2 .ensures) (c .after2 .ensures)
 
 pub place-body-spec : {M : Type 1} → statement M
 place-body-spec =
@@ -55,6 +58,7 @@ place-body-spec =
     after-requires
     returns
     filled-of-requires
+    home-for-requires
     place-pair-requires
     standing-of-requires
     standing-in-requires-2

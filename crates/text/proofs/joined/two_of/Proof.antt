@@ -17,9 +17,13 @@ returns c = search widths
 joined-of-requires : tie.Need-joined-of-requires
 joined-of-requires c κs = search widths
 
+anew-requires : tie.Need-anew-requires
+anew-requires c κs = search widths
+
 returns-2 : tie.Need-returns-2
 returns-2 c = search widths
 
 pub two-of-spec : {M : Type 1} → statement M
 two-of-spec =
-    tie.close (tie.spec short-two-requires cast-t7 add-t8 returns joined-of-requires returns-2)
+    tie.close
+    (tie.spec short-two-requires cast-t7 add-t8 returns joined-of-requires anew-requires returns-2)

@@ -23,6 +23,9 @@ sub-loop c = search scanning
 low-of-eight-requires : tie.Need-low-of-eight-requires Inv-loop μ-loop
 low-of-eight-requires c κs = search scanning
 
+past-few-requires : tie.Need-past-few-requires Inv-loop μ-loop
+past-few-requires c κs = search scanning
+
 returns-2 : tie.Need-returns-2 Inv-loop μ-loop
 returns-2 c = search scanning
 
@@ -48,6 +51,7 @@ past-eights-spec =
     loop-holds
     sub-loop
     low-of-eight-requires
+    past-few-requires
     returns-2
     add-i
     loop-less

@@ -1,15 +1,20 @@
-use Rattle.text.proofs.Laws.Lists.{listing}
 use Rattle.format.specs.Number.{nextByte}
-use Rattle.text.proofs.Laws.Many.{Counting, Column}
-use Rattle.text.proofs.Laws.Lists.{self}
+use Rattle.text.proofs.Laws.Many.{Counting}
+use Rattle.text.proofs.Laws.Lists.{Onward, listing}
 use Rattle.text.proofs.lists.parse_byte_many.Statement.{statement}
 use Rattle.text.proofs.lists.parse_byte_many.Tie as tie
 
 abbrev Inv-loop : tie.InvT-loop
-Inv-loop t at radix out₀ n₀ p₀ k₀ out n p k = (Counting (nextByte radix) t at n p k) × (Column self (nextByte radix) t at out₀ out n p k)
+Inv-loop t at radix out₀ n₀ p₀ k₀ out n p k = (Counting (nextByte radix) t at n p k) × (Onward radix t at out₀ n₀ p₀ k₀ out n p k)
 
 abbrev μ-loop : tie.MeasureT-loop
 μ-loop t at radix out₀ n₀ p₀ k₀ out n p k = k
+
+begin-bytes-requires : tie.Need-begin-bytes-requires Inv-loop μ-loop
+begin-bytes-requires c κs = search listing
+
+sub-k : tie.Need-sub-k Inv-loop μ-loop
+sub-k c = search listing
 
 loop-holds : tie.Need-loop-holds Inv-loop μ-loop
 loop-holds c = search listing
@@ -29,8 +34,8 @@ add-n c = search listing
 add-p : tie.Need-add-p Inv-loop μ-loop
 add-p c = search listing
 
-sub-k : tie.Need-sub-k Inv-loop μ-loop
-sub-k c = search listing
+sub-k-2 : tie.Need-sub-k-2 Inv-loop μ-loop
+sub-k-2 c = search listing
 
 loop-less : tie.Need-loop-less Inv-loop μ-loop
 loop-less c = search listing
@@ -59,8 +64,8 @@ put-byte-requires-2 c κs = search listing
 add-n-2 : tie.Need-add-n-2 Inv-loop μ-loop
 add-n-2 c = search listing
 
-sub-k-2 : tie.Need-sub-k-2 Inv-loop μ-loop
-sub-k-2 c = search listing
+sub-k-3 : tie.Need-sub-k-3 Inv-loop μ-loop
+sub-k-3 c = search listing
 
 loop-less-2 : tie.Need-loop-less-2 Inv-loop μ-loop
 loop-less-2 c = search listing
@@ -77,13 +82,15 @@ parse-byte-many-spec =
     (tie.spec
     Inv-loop
     μ-loop
+    begin-bytes-requires
+    sub-k
     loop-holds
     spaced-byte-requires
     cast-put-byte
     put-byte-requires
     add-n
     add-p
-    sub-k
+    sub-k-2
     loop-less
     loop-again
     any-next-requires
@@ -93,7 +100,7 @@ parse-byte-many-spec =
     cast-put-byte-2
     put-byte-requires-2
     add-n-2
-    sub-k-2
+    sub-k-3
     loop-less-2
     loop-again-2
     returns-2)

@@ -2,8 +2,8 @@ use Rattle.text.proofs.Laws.Numbers.{bytes}
 use Rattle.text.proofs.numbers.any_byte.Statement.{statement}
 use Rattle.text.proofs.numbers.any_byte.Tie as tie
 
-parse-number-requires : tie.Need-parse-number-requires
-parse-number-requires c κs = search bytes
+any-number-requires : tie.Need-any-number-requires
+any-number-requires c κs = search bytes
 
 enum-known-n : tie.Need-enum-known-n
 enum-known-n c = search bytes
@@ -22,4 +22,4 @@ returns-3 c = search bytes
 
 pub any-byte-spec : {M : Type 1} → statement M
 any-byte-spec =
-    tie.close (tie.spec parse-number-requires enum-known-n enum-told returns returns-2 returns-3)
+    tie.close (tie.spec any-number-requires enum-known-n enum-told returns returns-2 returns-3)

@@ -35,23 +35,23 @@ returns-5 c = search joins
 two-digits-requires : tie.Need-two-digits-requires
 two-digits-requires c κs = search joins
 
-returns-6 : tie.Need-returns-6
-returns-6 c = search joins
-
 add-two-digits : tie.Need-add-two-digits
 add-two-digits c = search joins
 
 two-digits-requires-2 : tie.Need-two-digits-requires-2
 two-digits-requires-2 c κs = search joins
 
-returns-7 : tie.Need-returns-7
-returns-7 c = search joins
-
 add-two-digits-2 : tie.Need-add-two-digits-2
 add-two-digits-2 c = search joins
 
 two-digits-requires-3 : tie.Need-two-digits-requires-3
 two-digits-requires-3 c κs = search joins
+
+returns-6 : tie.Need-returns-6
+returns-6 c = search joins
+
+returns-7 : tie.Need-returns-7
+returns-7 c = search joins
 
 returns-8 : tie.Need-returns-8
 returns-8 c = search joins
@@ -80,12 +80,12 @@ short-three-spec =
     shared-slice-read-if5
     returns-5
     two-digits-requires
-    returns-6
     add-two-digits
     two-digits-requires-2
-    returns-7
     add-two-digits-2
     two-digits-requires-3
+    returns-6
+    returns-7
     returns-8
     join-step-requires
     join-step-requires-2
