@@ -7,7 +7,7 @@ use mathlib.Core.List.{List}
 use mathlib.Core.Option.{none, some}
 use native.Mathlib.Omega.{arith}
 use lib.Dec.{lit≤}
-use lib.ListN.{getD, length, length-set, set, take}
+use lib.ListN.{getD, length, set, take}
 use borrow.Author.Needs.{needs}
 use borrow.Author.Tests.{le-leb, le-ltb, lt-leb, lt-ltb, ne-eqb}
 use Rattle.format.specs.Lists.{over, pick}
@@ -180,7 +180,7 @@ module _ (c : Class) (three big : Bool) (vs ms ks : List ℕ) {t : ℕ} (e : t �
         keeps = rw fits-all (q .lain .keeps ∙ keeps-by c three ks);
       }
 
--- for callers: what a number says, and that parts which are long enough are never too short
+-- for callers: what a number says
 pub record Stepped (c : Class) (three big : Bool) (n : ℕ) (vs ms ks vs′ ms′ ks′ : List ℕ) : Type 0 where
   pub number : n ≡ numberBy big c vs
   pub values : vs′ ≡ valuesBy c three vs
@@ -195,13 +195,5 @@ module _ {c : Class} {three big : Bool} {vs ms ks vs′ ms′ ks′ : List ℕ} 
 
   pub stepped : {r : Step} {n : ℕ} → Modified c three big r vs ms ks vs′ ms′ ks′ → r ≡ Number n → Stepped c three big n vs ms ks vs′ ms′ ks′
   stepped m e = let q = rw e at m in stepped-by (fits c three vs ms ks) (q .number) (q .values) (q .masks) (q .keeps)
-
-  pub never-short : {r : Step} → Modified c three big r vs ms ks vs′ ms′ ks′ → r ≡ Short
-      → touchedOf c three ≤ length vs → touchedOf c three ≤ length ms → touchedOf c three ≤ length ks → ⊥
-  never-short m e hv hm hk =
-      let f = fits-all c three big vs ms ks refl hv hm hk in
-      let q : none ≡ some (numberBy big c vs) = rw f at ((rw e at m) .number) in
-      let z : _≡_ {A = ℕ} 0 1 = cc in
-      omega arith
 
 pub ruleset stepping = (needs, room, laid-at, cell-in, cell-out, opcode-stays, opcode-moves, laid, touches, short-values, short-masks, short-keeps, steps)

@@ -4,7 +4,7 @@ use Prim.Native.Nat.{ℕ, zero, suc, _+_, _-_, _≤_, _<_}
 use mathlib.Core.Path.{_≡_, refl}
 use mathlib.Core.Bool.{Bool, true, false, not, _&&_}
 use mathlib.Core.List.{List}
-use mathlib.Core.Option.{none, some}
+use mathlib.Core.Option.{some}
 use native.Mathlib.Omega.{arith}
 use mir.Val.{Fits}
 use mir.Syntax.{w64}
@@ -16,7 +16,6 @@ use Rattle.homes.specs.declared.Home.{Home}
 use Rattle.place.specs.declared.pair.Line.{Line}
 use Rattle.place.specs.declared.pair.Filled.{Filled}
 use Rattle.place.specs.declared.site.Site.{Site}
-use Rattle.place.specs.declared.site.Found.{Found}
 use Rattle.place.specs.declared.site.Found.the-variants.{Unkept, Misfit, At}
 use Rattle.place.specs.Named.{names}
 use Rattle.place.specs.Site.{lineFits, filledFits, imageFits, siteAt, found}
