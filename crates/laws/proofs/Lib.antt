@@ -7,3 +7,4 @@ pub mod Room
 pub mod Unique
 pub mod Fill
 pub mod Parts
+pub mod Areas

@@ -17,17 +17,17 @@ use Rattle.place.specs.declared.site.Site.{Site}
 use Rattle.place.specs.Walk.{Ready}
 use Rattle.place.specs.Image.{imageWalk, imageOf, Wrote, Imaged}
 
--- `write_entry`: t is the kept flag that it read
-module _ (wv wm wk vs ms : List ℕ) (start p : ℕ) {e i t : ℕ} (ei : i ≡ e) (et : t ≡ getD wk i 0) where
-  pub wrote : t ≡ 1 → {q at v m : ℕ} → q ≡ p → at ≡ start + q → v ≡ getD wv i 0 → m ≡ getD wm i 0 → {vs′ ms′ : List ℕ} → vs′ ≡ set vs at v → ms′ ≡ set ms at m
+-- `write_entry`
+module _ (wv wm wk vs ms : List ℕ) (start p : ℕ) {e i : ℕ} (ei : i ≡ e) where
+  pub wrote : getD wk i 0 ≡ 1 → {q at : ℕ} → q ≡ p → at ≡ start + q → {vs′ ms′ : List ℕ} → vs′ ≡ set vs at (getD wv i 0) → ms′ ≡ set ms at (getD wm i 0)
       → Wrote (getD wk e 0) (start + p) (getD wv e 0) (getD wm e 0) vs ms 1 vs′ ms′
-  wrote h eq ea ev em p₁ p₂ =
-      let b : eqb (getD wk e 0) 1 ≡ true = rw (← ei, ← et) (eq-eqb t 1 h) in
-      record { grows = rw b; values = rw (b, ← eq, ← ea, ← ei, ← ev) p₁; masks = rw (b, ← eq, ← ea, ← ei, ← em) p₂ }
+  wrote h eq ea p₁ p₂ =
+      let b : eqb (getD wk e 0) 1 ≡ true = rw (← ei) (eq-eqb (getD wk i 0) 1 h) in
+      record { grows = rw b; values = rw (b, ← eq, ← ea, ← ei) p₁; masks = rw (b, ← eq, ← ea, ← ei) p₂ }
 
-  pub wrote-none : (t ≡ 1 → ⊥) → Wrote (getD wk e 0) (start + p) (getD wv e 0) (getD wm e 0) vs ms 0 vs ms
+  pub wrote-none : (getD wk i 0 ≡ 1 → ⊥) → Wrote (getD wk e 0) (start + p) (getD wv e 0) (getD wm e 0) vs ms 0 vs ms
   wrote-none h =
-      let b : eqb (getD wk e 0) 1 ≡ false = rw (← ei, ← et) (ne-eqb t 1 h) in
+      let b : eqb (getD wk e 0) 1 ≡ false = rw (← ei) (ne-eqb (getD wk i 0) 1 h) in
       record { grows = rw b; values = rw b; masks = rw b }
 
 pub at-fits : (start p : ℕ) {q : ℕ} → start + p < 65536 → q ≡ p → Fits w64 (start + q)
@@ -80,6 +80,9 @@ module _ {s : Site} {wv wm wk vs ms : List ℕ} {n : ℕ} {us os : List ℕ} {e 
   pub image-room : p < s .size → s .start + p < 65536
   image-room h = omega (arith, w .ready .inside)
 
+  pub image-entry : e < n → e < 260
+  image-entry h = omega (arith, w .whole, w .ready .line .address, w .ready .line .content)
+
   pub image-narrow : e < n → Fits w32 (e + 1)
   image-narrow h = record { fits = omega (arith, w .whole, w .ready .line .address, w .ready .line .content) }
 
@@ -99,4 +102,4 @@ module _ {s : Site} {wv wm wk vs ms : List ℕ} {n : ℕ} {us os : List ℕ} {e 
       ready = w .ready;
     }
 
-pub ruleset imaging = (needs, image-start, image-end, image-out, image-room, image-narrow, image-grows, image-more)
+pub ruleset imaging = (needs, image-start, image-end, image-out, image-room, image-entry, image-narrow, image-grows, image-more)

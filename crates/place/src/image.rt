@@ -1,6 +1,5 @@
 // The walk over a pair's entries for its bytes in the images.
 use crate::site::Site;
-use cells::byte_at;
 use cells::put;
 use cells::wide;
 ghost use Prim.Native.Nat.{_<_, _+_};
@@ -10,23 +9,23 @@ ghost use Rattle.place.specs.Image.{Wrote, Imaged};
 
 // The entry e, at the position p, if it is kept. Answers by how much the position grows.
 fn write_entry(
-    wv: &[u8],
-    wm: &[u8],
-    wk: &[u8],
+    wv: &[u8; 260],
+    wm: &[u8; 260],
+    wk: &[u8; 260],
     e: u32,
     start: usize,
     p: u32,
     values: &mut [u8],
     masks: &mut [u8],
 ) -> u32
-    requires { ⌜ start + p < 65536 ⌝ }
+    requires { ⌜ (e < 260) × (start + p < 65536) ⌝ }
     ensures { λ r. ⌜ Wrote (getD (now (wk .entry)) e 0) (start + p) (getD (now (wv .entry)) e 0) (getD (now (wm .entry)) e 0) (now (values .entry)) (now (masks .entry)) r (now (values .exit)) (now (masks .exit)) ⌝ }
 {
     let i = wide(e);
-    if byte_at(wk, i) == 1 {
+    if wk[i] == 1 {
         let to = start + wide(p);
-        put(values, to, byte_at(wv, i));
-        put(masks, to, byte_at(wm, i));
+        put(values, to, wv[i]);
+        put(masks, to, wm[i]);
         return 1;
     }
     0

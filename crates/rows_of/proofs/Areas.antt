@@ -2,12 +2,10 @@
 -- Assumes nothing.
 use Prim.Native.Nat.{ℕ, zero, suc, _+_, _*_, _-_, _/_, _%_, _<_, _≤_, _^_}
 use mathlib.Core.Path.{_≡_, refl, ap, sym, _∙_}
-use mathlib.Core.Bool.{Bool, true, false, _&&_}
+use mathlib.Core.Bool.{Bool, true, false}
 use mathlib.Core.List.{List, []}
-use mathlib.Core.Option.{none, some}
 use native.Mathlib.Omega.{arith}
-use native.Mathlib.Nat.{add-zero, zero-add}
-use native.Mathlib.Numerals.{add-one}
+use native.Mathlib.Nat.{add-zero, zero-add, le-of-lt}
 use lib.ListN.{length, take, drop, getD}
 use lib.Dec.{eqb, leb}
 use mir.Val.{Fits}
@@ -19,6 +17,7 @@ use Rattle.format.specs.Mode.{bit}
 use Rattle.format.specs.Tables.{Area, code, absolute, base, kept, keptSize, total, rank, offset}
 use Rattle.format.specs.Placing.{extent}
 use Rattle.laws.specs.Rows.{from, areaAt, areasIn}
+use Rattle.laws.proofs.Areas.{kept-none, kept-code, pick-size, one-at-most, Ranking, rank-past, rank-start, rank-more, rank-here, Adding, add-start, add-more, add-low, add-end, extent-at}
 use Rattle.rows_of.specs.Parts.{partOf, nameIn, imageIn, oneIf}
 use Rattle.rows_of.specs.Told.{toldId}
 use Rattle.rows_of.specs.declared.area.Id.the-variants.{Kept, Unkept}
@@ -54,90 +53,25 @@ module _ (s : List ℕ) (i : ℕ) where
     unfolding areaAt base
     area-absent h = rw (← e, ← f, ne-eqb g 1 h)
 
-size-zero : (x : ℕ) → x ≡ pick (leb 1 x) x 0
-size-zero zero = refl
-size-zero (suc x) = rw (le-leb 1 (suc x) (omega arith))
-
-module _ (x : Area) {c : Bool} (e : c ≡ code x) where
-  pub kept-none : c ≡ false → 0 ≡ keptSize x
-  unfolding keptSize kept
-  kept-none h = rw (← e, h)
-
-  pub kept-code : c ≡ true → {y z : ℕ} → y ≡ x .size → z ≡ y → z ≡ keptSize x
-  unfolding keptSize kept
-  kept-code h i j = rw (← e, h, j, i) (size-zero (x .size))
-
-kept-is : (x : Area) (b : Bool) → leb 1 (keptSize x) ≡ b → b ≡ kept x
-unfolding keptSize kept
-kept-is x b h = go (code x) (leb 1 (x .size)) refl h
-  where
-    go : (c d : Bool) → leb 1 (x .size) ≡ d → leb 1 (pick (c && d) (x .size) 0) ≡ b → b ≡ (c && d)
-    go true true k l = sym l ∙ k
-    go true false k l = sym l
-    go false d k l = sym l
-
 module _ (x : Area) {z : ℕ} (e : z ≡ keptSize x) where
   pub one-kept : 1 ≤ z → 1 ≡ oneIf (kept x)
-  one-kept h = ap oneIf (kept-is x true (rw (← e) (le-leb 1 z h)))
+  one-kept h = rw (le-leb 1 z h) at (pick-size {A = ℕ} x 1 0 e)
 
   pub one-unkept : z < 1 → 0 ≡ oneIf (kept x)
-  one-unkept h = ap oneIf (kept-is x false (rw (← e) (lt-leb 1 z h)))
+  one-unkept h = rw (lt-leb 1 z h) at (pick-size {A = ℕ} x 1 0 e)
 
 pub ruleset areas = (needs, area-name, area-size, area-code, area-absolute, area-given, area-absent, kept-none, kept-code, one-kept, one-unkept)
 
 -- `area_id`
-pub record Ranking (s : List ℕ) (n i k j : ℕ) : Type 0 where
-  pub before : j ≤ i
-  pub low : k ≤ j
-  pub rest : rank 0 (areasIn s n) i ≡ rank k (from (areaAt s) j (n - j)) (i - j)
-
-rank-past : (g : ℕ → Area) (k j n i : ℕ) → n ≤ i → rank k (from g j n) i ≡ none
-unfolding rank from
-rank-past g k j zero i h = refl
-rank-past g k j (suc n) zero h = absurd (omega arith)
-rank-past g k j (suc n) (suc i) h = rank-past g (k + pick (kept (g j)) 1 0) (suc j) n i (omega arith)
-
 pub id-past : (s : List ℕ) (n i : ℕ) → n ≤ i → toldId Unkept ≡ rank 0 (areasIn s n) i
 unfolding areasIn
-id-past s n i h = sym (rank-past (areaAt s) 0 0 n i h)
-
-pub id-start : (s : List ℕ) (n i : ℕ) → Ranking s n i 0 0
-unfolding areasIn
-id-start s n i = let y : n - 0 ≡ n = omega arith in let z : i - 0 ≡ i = omega arith in record { before = omega arith; low = omega arith; rest = rw (y, z) }
+id-past s n i h = sym (rank-past s 0 0 n i h)
 
 module _ {s : List ℕ} {n i k j : ℕ} (w : Ranking s n i k j) (l : i < n) where
-  here : n - j ≡ suc (n - suc j)
-  here = omega (arith, w .before)
-
-  module _ (h : j < i) {o : ℕ} (e : o ≡ oneIf (kept (areaAt s j))) where
-    one-low : o ≤ 1
-    one-low = rw e (go (kept (areaAt s j)))
-      where
-        go : (b : Bool) → oneIf b ≤ 1
-        go true = omega arith
-        go false = omega arith
-
-    pub id-fits : i < 2 ^ 64 → Fits w64 (k + o)
-    id-fits b = record { fits = omega (arith, w .low, one-low) }
-
-    pub id-more : Ranking s n i (k + o) (j + 1)
-    unfolding rank from
-    id-more =
-        let y : i - j ≡ suc (i - suc j) = omega arith in
-        record {
-          before = omega arith;
-          low = omega (arith, w .low, one-low);
-          rest = w .rest ∙ (ap (λ (m : ℕ). rank k (from (areaAt s) j m) (i - j)) here ∙ (ap (λ (m : ℕ). rank k (from (areaAt s) j (suc (n - suc j))) m) y ∙ rw (e, add-one)));
-        }
+  pub id-fits : j < i → {o : ℕ} → o ≡ oneIf (kept (areaAt s j)) → i < 2 ^ 64 → Fits w64 (k + o)
+  id-fits h e b = record { fits = omega (arith, w .few, one-at-most (kept (areaAt s j))) }
 
   module _ (h : i ≤ j) {o : ℕ} (e : o ≡ oneIf (kept (areaAt s i))) where
-    at-last : rank 0 (areasIn s n) i ≡ pick (kept (areaAt s i)) (some k) none
-    unfolding rank from
-    at-last =
-        let x : j ≡ i = omega (arith, w .before) in
-        let y : i - j ≡ 0 = omega arith in
-        w .rest ∙ (ap (λ (m : ℕ). rank k (from (areaAt s) j m) (i - j)) here ∙ (ap (λ (m : ℕ). rank k (from (areaAt s) j (suc (n - suc j))) m) y ∙ rw x))
-
     one-is : (b : Bool) → kept (areaAt s i) ≡ b → 1 ≤ o → b ≡ true
     one-is true f g = refl
     one-is false f g = let z : o ≡ 0 = e ∙ ap oneIf f in absurd (omega arith)
@@ -147,18 +81,17 @@ module _ {s : List ℕ} {n i k j : ℕ} (w : Ranking s n i k j) (l : i < n) wher
     none-is true f g = let z : o ≡ 1 = e ∙ ap oneIf f in absurd (omega arith)
 
     pub id-kept : 1 ≤ o → toldId (Kept k) ≡ rank 0 (areasIn s n) i
-    id-kept g = sym (at-last ∙ rw (one-is (kept (areaAt s i)) refl g))
+    id-kept g = sym (rank-here w l h ∙ rw (one-is (kept (areaAt s i)) refl g))
 
     pub id-unkept : o < 1 → toldId Unkept ≡ rank 0 (areasIn s n) i
-    id-unkept g = sym (at-last ∙ rw (none-is (kept (areaAt s i)) refl g))
+    id-unkept g = sym (rank-here w l h ∙ rw (none-is (kept (areaAt s i)) refl g))
 
-pub ruleset ids = (needs, id-past, id-start, id-fits, id-more, id-kept, id-unkept)
+pub ruleset ids = (needs, id-past, rank-start, id-fits, rank-more, id-kept, id-unkept)
 
 -- `area_image`
 pub record Offsetting (s image : List ℕ) (n i start j : ℕ) : Type 0 where
-  pub before : j ≤ i
+  pub sums : Adding s n i start j
   pub inside : start ≤ length image
-  pub rest : offset (areasIn s n) i ≡ start + total (take (i - j) (from (areaAt s) j (n - j)))
 
 extent-past : (g : ℕ → Area) (j n i : ℕ) → n ≤ i → drop i (from g j n) ≡ []
 unfolding from
@@ -181,41 +114,25 @@ unfolding imageIn extent areasIn total
 image-past s image n i h = empty-part image (offset (from (areaAt s) 0 n) i) ∙ ap (λ (l : List Area). partOf image (offset (from (areaAt s) 0 n) i) (total (take 1 l))) (sym (extent-past (areaAt s) 0 n i h))
 
 pub image-start : (s image : List ℕ) (n i : ℕ) → Offsetting s image n i 0 0
-unfolding offset areasIn
-image-start s image n i = let y : n - 0 ≡ n = omega arith in let z : i - 0 ≡ i = omega arith in record { before = omega arith; inside = omega arith; rest = rw (y, z) (omega arith) }
-
-extent-at : (g : ℕ → Area) (j n i : ℕ) → i < n → total (take 1 (drop i (from g j n))) ≡ keptSize (g (j + i))
-unfolding from total
-extent-at g j zero i h = absurd (omega arith)
-extent-at g j (suc n) zero h = let z : j + 0 ≡ j = omega arith in rw z (omega arith)
-extent-at g j (suc n) (suc i) h = let z : j + suc i ≡ suc j + i = omega arith in rw z (extent-at g (suc j) n i (omega arith))
+image-start s image n i = record { sums = add-start s n i; inside = omega arith }
 
 module _ {s image : List ℕ} {n i start j : ℕ} (w : Offsetting s image n i start j) (l : i < n) {z : ℕ} where
   module _ (h : j < i) (e : z ≡ keptSize (areaAt s j)) where
-    next : total (take (i - j) (from (areaAt s) j (n - j))) ≡ z + total (take (i - suc j) (from (areaAt s) (suc j) (n - suc j)))
-    unfolding total from
-    next =
-        let x : n - j ≡ suc (n - suc j) = omega arith in
-        let y : i - j ≡ suc (i - suc j) = omega arith in
-        ap (λ (m : ℕ). total (take m (from (areaAt s) j (n - j)))) y ∙ (ap (λ (m : ℕ). total (take (suc (i - suc j)) (from (areaAt s) j m))) x ∙ rw e)
-
     pub image-out : length image - start < z → [] ≡ imageIn image (areasIn s n) i
     unfolding imageIn
-    image-out f = part-past image (offset (areasIn s n) i) (extent (areasIn s n) i) (omega (arith, w .rest, next, w .inside))
+    image-out f = part-past image (offset (areasIn s n) i) (extent (areasIn s n) i) (omega (arith, add-low (w .sums) h (le-of-lt l) e, w .inside))
 
     pub image-fits : z ≤ length image - start → length image < 2 ^ 64 → Fits w64 (start + z)
     image-fits f b = record { fits = omega (arith, w .inside) }
 
     pub image-more : z ≤ length image - start → Offsetting s image n i (start + z) (j + 1)
-    image-more f = record { before = omega arith; inside = omega (arith, w .inside); rest = rw add-one (omega (arith, w .rest, next)) }
+    image-more f = record { sums = add-more (w .sums) h (le-of-lt l) e; inside = omega (arith, w .inside) }
 
   pub image-end : i ≤ j → z ≡ keptSize (areaAt s i) → {r : List ℕ} → r ≡ partOf image start z → r ≡ imageIn image (areasIn s n) i
-  unfolding imageIn extent areasIn total
+  unfolding imageIn extent areasIn
   image-end h e f =
-      let y : i - j ≡ 0 = omega arith in
-      let o : offset (areasIn s n) i ≡ start = w .rest ∙ (ap (λ (m : ℕ). start + total (take m (from (areaAt s) j (n - j)))) y ∙ add-zero start) in
-      let x : total (take 1 (drop i (from (areaAt s) 0 n))) ≡ z = extent-at (areaAt s) 0 n i l ∙ (ap (λ (m : ℕ). keptSize (areaAt s m)) (zero-add i) ∙ sym e) in
-      f ∙ (ap (λ (m : ℕ). partOf image m z) (sym o) ∙ ap (λ (m : ℕ). partOf image (offset (areasIn s n) i) m) (sym x))
+      let x : total (take 1 (drop i (from (areaAt s) 0 n))) ≡ z = extent-at s 0 n i l ∙ (ap (λ (m : ℕ). keptSize (areaAt s m)) (zero-add i) ∙ sym e) in
+      f ∙ (ap (λ (m : ℕ). partOf image m z) (add-end (w .sums) h) ∙ ap (λ (m : ℕ). partOf image (offset (areasIn s n) i) m) (sym x))
 
 pub image-sub : {s image : List ℕ} {n i start j : ℕ} → Offsetting s image n i start j → start ≤ length image
 image-sub w = w .inside

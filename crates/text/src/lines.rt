@@ -82,7 +82,7 @@ fn past_few(t: &[u8], i: usize) -> usize
     i + 7
 }
 
-// A place in the same line, behind as many bytes as have no low one among them.
+// A place in the same line, behind as many bytes as have no low one among them; two eights a turn.
 fn past_eights(t: &[u8], at: usize) -> usize
     ensures { λ r. ⌜ OneLine (now (t .entry)) at r ⌝ }
 {
@@ -90,20 +90,32 @@ fn past_eights(t: &[u8], at: usize) -> usize
         return at;
     }
     let mut i = at;
-    while 8 <= t.len() - i {
+    while 16 <= t.len() - i {
         if low_of_eight(t, i) {
             return past_few(t, i);
         }
-        i += 8;
+        if low_of_eight(t, i + 8) {
+            return past_few(t, i + 8);
+        }
+        i += 16;
     }
     i
 }
 
-// The line at a place: its bytes end before the first CR or LF.
+// The line at a place: its bytes end before the first CR or LF. An LF behind the eights is its end at once.
 pub fn line_at(t: &[u8], at: usize) -> LineAt
     ensures { λ r. ⌜ LineIs (now (t .entry)) at r ⌝ }
 {
     let m = past_eights(t, at);
+    if m < t.len() {
+        if t[m] == 10 {
+            return LineAt {
+                end: m,
+                ends: 1,
+                next: m + 1,
+            };
+        }
+    }
     let q = past_kind(t, m, Kind::InLine);
     let e = line_ending(t, q);
     LineAt {

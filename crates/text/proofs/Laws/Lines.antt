@@ -22,7 +22,7 @@ use Rattle.laws.specs.Places.{inner, lineEnd, endAt, nextLine}
 use Rattle.laws.proofs.Within.{past-within}
 use Rattle.text.specs.Lines.{LineIs, High, OneLine, Eight}
 use Rattle.text.proofs.Laws.Tests.{by-order}
-use Rattle.text.proofs.Laws.Kinds.{Spans, span-start, span-more}
+use Rattle.text.proofs.Laws.Kinds.{Spans, span-start, span-more, span-stop}
 
 -- `line_ending`
 end-of : (a : ℕ) (rest : List ℕ) → endLength (a ∷ rest) ≡ pick (eqb a 10) 1 (pick (eqb a 13) (pick (eqb (getD rest 0 0) 10) 2 0) 0)
@@ -170,7 +170,12 @@ line-so-far w e = record { same = w .same ∙ e .same }
 pub line-on : {s : List ℕ} {p i : ℕ} {r : Bool} → OneLine s p i → Eight s i r → r ≡ false → OneLine s p (i + 8)
 line-on w e z = record { same = w .same ∙ e .on z .same }
 
-pub ruleset scanning = (needs, line-start, line-so-far, line-on)
+pub line-on-twice : {s : List ℕ} {p i : ℕ} {q r : Bool} → OneLine s p i → Eight s i q → q ≡ false → Eight s (i + 8) r → r ≡ false → OneLine s p (i + 16)
+line-on-twice {i = i} w d y e z =
+    let n : i + 8 + 8 ≡ i + 16 = omega arith in
+    rw n at (line-on (line-on w d y) e z)
+
+pub ruleset scanning = (needs, line-start, line-so-far, line-on, line-on-twice)
 
 -- `line_at`
 end-within : (xs : List ℕ) → endLength xs ≤ length xs
@@ -209,4 +214,10 @@ module _ (s : List ℕ) {q e : ℕ} (b : e ≡ endLength (drop q s)) where
     inside = λ h. end-inside (rw a (past-within inner s p h));
   }
 
-pub ruleset lining = (needs, end-fits, line-is)
+pub lf-line : (s : List ℕ) {p m : ℕ} → OneLine s p m → m < length s → getD s m 0 ≡ 10 → LineIs s p (record { end = m; ends = 1; next = m + 1 })
+unfolding isCrOrLf
+lf-line s {m = m} w h e =
+    let o : false ≡ inner (getD s m 0) = rw e in
+    line-is s (end-lf s m h e) w (span-stop (span-start inner s m) o h refl)
+
+pub ruleset lining = (needs, end-fits, line-is, lf-line)

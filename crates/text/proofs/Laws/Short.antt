@@ -111,7 +111,14 @@ module _ (s : List ℕ) (at : ℕ) where
       let j : e ≡ worth (getD s (at + 1) 0) = b .digit (omega arith) in
       record { first = λ x. omega arith; got = λ x. two-byte h i j k l (omega arith) }
 
-pub ruleset twos = (needs, two-none, two-is)
+  -- `first_byte`
+  pub two-zeros : at + 3 ≤ length s → getD s at 0 ≡ 48 → getD s (at + 1) 0 ≡ 48 → getD s (at + 2) 0 < 48 → Two s at 0
+  two-zeros h d e m = two-is {d = 0} {e = 0} (omega arith) (hex-zero d) (hex-zero e) (omega arith) (omega arith) refl m
+    where
+      hex-zero : {b : ℕ} → b ≡ 48 → Hex b 0
+      hex-zero z = record { digit = λ l. rw z (worth-ten 48 (omega arith) (omega arith)) }
+
+pub ruleset twos = (needs, two-none, two-is, two-zeros)
 
 -- `short_byte`
 module _ (radix : ℕ) (s : List ℕ) (at : ℕ) where

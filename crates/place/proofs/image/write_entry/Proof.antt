@@ -5,8 +5,8 @@ use Rattle.place.proofs.image.write_entry.Tie as tie
 wide-requires : tie.Need-wide-requires
 wide-requires c κs = search writing
 
-byte-at-requires : tie.Need-byte-at-requires
-byte-at-requires c κs = search writing
+element-copy-out-if1 : tie.Need-element-copy-out-if1
+element-copy-out-if1 c = search writing
 
 wide-requires-2 : tie.Need-wide-requires-2
 wide-requires-2 c κs = search writing
@@ -14,14 +14,14 @@ wide-requires-2 c κs = search writing
 add-to : tie.Need-add-to
 add-to c = search writing
 
-byte-at-requires-2 : tie.Need-byte-at-requires-2
-byte-at-requires-2 c κs = search writing
+element-copy-out-put : tie.Need-element-copy-out-put
+element-copy-out-put c = search writing
 
 put-requires : tie.Need-put-requires
 put-requires c κs = search writing
 
-byte-at-requires-3 : tie.Need-byte-at-requires-3
-byte-at-requires-3 c κs = search writing
+element-copy-out-put-2 : tie.Need-element-copy-out-put-2
+element-copy-out-put-2 c = search writing
 
 put-requires-2 : tie.Need-put-requires-2
 put-requires-2 c κs = search writing
@@ -43,12 +43,12 @@ write-entry-spec =
     tie.close
     (tie.spec
     wide-requires
-    byte-at-requires
+    element-copy-out-if1
     wide-requires-2
     add-to
-    byte-at-requires-2
+    element-copy-out-put
     put-requires
-    byte-at-requires-3
+    element-copy-out-put-2
     put-requires-2
     same-length
     same-length-2

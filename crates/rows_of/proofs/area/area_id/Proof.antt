@@ -1,6 +1,6 @@
 use Rattle.rows_of.proofs.Areas.{ids}
 use Prim.Native.Nat.{_-_}
-use Rattle.rows_of.proofs.Areas.{Ranking}
+use Rattle.laws.proofs.Areas.{Ranking}
 use Rattle.rows_of.proofs.area.area_id.Statement.{statement}
 use Rattle.rows_of.proofs.area.area_id.Tie as tie
 

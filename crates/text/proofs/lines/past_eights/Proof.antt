@@ -29,6 +29,21 @@ past-few-requires c κs = search scanning
 returns-2 : tie.Need-returns-2 Inv-loop μ-loop
 returns-2 c = search scanning
 
+add-low-of-eight : tie.Need-add-low-of-eight Inv-loop μ-loop
+add-low-of-eight c = search scanning
+
+low-of-eight-requires-2 : tie.Need-low-of-eight-requires-2 Inv-loop μ-loop
+low-of-eight-requires-2 c κs = search scanning
+
+add-past-few : tie.Need-add-past-few Inv-loop μ-loop
+add-past-few c = search scanning
+
+past-few-requires-2 : tie.Need-past-few-requires-2 Inv-loop μ-loop
+past-few-requires-2 c κs = search scanning
+
+returns-3 : tie.Need-returns-3 Inv-loop μ-loop
+returns-3 c = search scanning
+
 add-i : tie.Need-add-i Inv-loop μ-loop
 add-i c = search scanning
 
@@ -36,10 +51,10 @@ loop-less : tie.Need-loop-less Inv-loop μ-loop
 loop-less c = search scanning
 
 loop-again : tie.Need-loop-again Inv-loop μ-loop
-loop-again c = search scanning
+loop-again c = (search scanning, search scanning)
 
-returns-3 : tie.Need-returns-3 Inv-loop μ-loop
-returns-3 c = search scanning
+returns-4 : tie.Need-returns-4 Inv-loop μ-loop
+returns-4 c = search scanning
 
 pub past-eights-spec : {M : Type 1} → statement M
 past-eights-spec =
@@ -53,7 +68,12 @@ past-eights-spec =
     low-of-eight-requires
     past-few-requires
     returns-2
+    add-low-of-eight
+    low-of-eight-requires-2
+    add-past-few
+    past-few-requires-2
+    returns-3
     add-i
     loop-less
     loop-again
-    returns-3)
+    returns-4)

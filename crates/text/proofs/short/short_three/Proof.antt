@@ -32,20 +32,20 @@ shared-slice-read-if5 c = search joins
 returns-5 : tie.Need-returns-5
 returns-5 c = search joins
 
-two-digits-requires : tie.Need-two-digits-requires
-two-digits-requires c κs = search joins
+first-byte-requires : tie.Need-first-byte-requires
+first-byte-requires c κs = search joins
 
 add-two-digits : tie.Need-add-two-digits
 add-two-digits c = search joins
 
-two-digits-requires-2 : tie.Need-two-digits-requires-2
-two-digits-requires-2 c κs = search joins
+two-digits-requires : tie.Need-two-digits-requires
+two-digits-requires c κs = search joins
 
 add-two-digits-2 : tie.Need-add-two-digits-2
 add-two-digits-2 c = search joins
 
-two-digits-requires-3 : tie.Need-two-digits-requires-3
-two-digits-requires-3 c κs = search joins
+two-digits-requires-2 : tie.Need-two-digits-requires-2
+two-digits-requires-2 c κs = search joins
 
 returns-6 : tie.Need-returns-6
 returns-6 c = search joins
@@ -79,11 +79,11 @@ short-three-spec =
     add-if5
     shared-slice-read-if5
     returns-5
-    two-digits-requires
+    first-byte-requires
     add-two-digits
-    two-digits-requires-2
+    two-digits-requires
     add-two-digits-2
-    two-digits-requires-3
+    two-digits-requires-2
     returns-6
     returns-7
     returns-8

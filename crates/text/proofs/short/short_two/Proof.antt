@@ -23,8 +23,8 @@ shared-slice-read-if4 c = search joins
 returns-4 : tie.Need-returns-4
 returns-4 c = search joins
 
-two-digits-requires : tie.Need-two-digits-requires
-two-digits-requires c κs = search joins
+first-byte-requires : tie.Need-first-byte-requires
+first-byte-requires c κs = search joins
 
 returns-5 : tie.Need-returns-5
 returns-5 c = search joins
@@ -32,8 +32,8 @@ returns-5 c = search joins
 add-two-digits : tie.Need-add-two-digits
 add-two-digits c = search joins
 
-two-digits-requires-2 : tie.Need-two-digits-requires-2
-two-digits-requires-2 c κs = search joins
+two-digits-requires : tie.Need-two-digits-requires
+two-digits-requires c κs = search joins
 
 returns-6 : tie.Need-returns-6
 returns-6 c = search joins
@@ -55,10 +55,10 @@ short-two-spec =
     add-if4
     shared-slice-read-if4
     returns-4
-    two-digits-requires
+    first-byte-requires
     returns-5
     add-two-digits
-    two-digits-requires-2
+    two-digits-requires
     returns-6
     join-step-requires
     returns-7)
