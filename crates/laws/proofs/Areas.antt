@@ -15,6 +15,7 @@ use Rattle.format.specs.Lists.{pick}
 use Rattle.format.specs.Mode.{bit}
 use Rattle.format.specs.Tables.{Area, code, kept, keptSize, total, rank, offset}
 use Rattle.laws.specs.Rows.{from, areaAt, areasIn}
+pub use Rattle.laws.proofs.Ones.{one-at-most}
 
 -- ------------------------------------------------------------------ an area's size
 
@@ -54,10 +55,6 @@ kept-size a = go (code a) (leb 1 (a .size)) (a .size) refl
 
 pub pick-size : {A : Type 0} (a : Area) (x y : A) {z : ℕ} → z ≡ keptSize a → pick (leb 1 z) x y ≡ pick (kept a) x y
 pick-size a x y e = ap (λ (b : Bool). pick b x y) (ap (λ (n : ℕ). leb 1 n) e ∙ kept-size a)
-
-pub one-at-most : (b : Bool) → pick b 1 0 ≤ 1
-one-at-most true = omega arith
-one-at-most false = omega arith
 
 -- ------------------------------------------------------------------ its rank among the kept ones
 

@@ -1,12 +1,11 @@
--- Laws of `tab` and `over`: an entry, the length, and one more store.
+-- Laws of `tab` and `over`: an entry, and one more store.
 -- Assumes nothing.
 use mathlib.Core.Path.{_≡_, refl, _∙_, ap, sym}
 use mathlib.Core.List.{List, [], _∷_, _++_}
-use Prim.Native.Nat.{ℕ, zero, suc, _+_, _≤_, _<_}
+use Prim.Native.Nat.{ℕ, zero, suc, _+_, _<_}
 use native.Mathlib.Nat.{add-zero, zero-add, add-suc, suc-add, le-of-suc-le-suc, not-suc-le-zero}
 use native.Mathlib.Numerals.{add-one}
-use native.Mathlib.Omega.{arith}
-use lib.ListN.{length, getD, set, drop, length-append, length-drop}
+use lib.ListN.{length, getD, set, drop}
 use lib.Seq.{drop-cons, set-at, append-snoc}
 use Rattle.laws.specs.Tab.{tab, over}
 
@@ -26,9 +25,6 @@ length-tab g i (suc n) = ap suc (length-tab g (suc i) n)
 tab-snoc : (g : ℕ → ℕ) (i n : ℕ) → tab g i (suc n) ≡ tab g i n ++ (g (i + n) ∷ [])
 tab-snoc g i zero = ap (λ (k : ℕ). g k ∷ []) (sym (add-zero i))
 tab-snoc g i (suc n) = ap (_∷_ (g i)) (tab-snoc g (suc i) n ∙ ap (λ (k : ℕ). tab g (suc i) n ++ (g k ∷ [])) (suc-add i n ∙ sym (add-suc i n)))
-
-pub length-over : (g : ℕ → ℕ) (n : ℕ) (xs : List ℕ) → n ≤ length xs → length (over g n xs) ≡ length xs
-length-over g n xs h = simp (length-append, length-tab, length-drop) (omega arith)
 
 -- one more store, at the next place
 pub over-more : (g : ℕ → ℕ) (i : ℕ) (xs : List ℕ) → i < length xs → set (over g i xs) i (g i) ≡ over g (i + 1) xs

@@ -7,4 +7,5 @@ pub mod Room
 pub mod Unique
 pub mod Fill
 pub mod Parts
+pub mod Ones
 pub mod Areas

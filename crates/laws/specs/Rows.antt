@@ -1,4 +1,4 @@
--- The lent rows of numbers, and what they stand for: fragments, areas, symbols, fixups; and the state of placing.
+-- The lent rows of numbers, and what they stand for: areas, symbols, fixups; and the state of placing.
 -- Assumes nothing.
 use Prim.Native.Nat.{ℕ, zero, suc, _+_, _*_}
 use mathlib.Core.List.{List, [], _∷_}
@@ -18,13 +18,6 @@ from g i (suc n) = g i ∷ from g (suc i) n
 
 abbrev pub fragment : (mode entry index : ℕ) → Fragment
 fragment m e i = record { mode = m; entry = e; index = i }
-
--- mode, entry, index
-unfoldable pub fragmentAt : List ℕ → ℕ → Fragment
-fragmentAt rows i = fragment (getD rows (3 * i) 0) (getD rows (3 * i + 1) 0) (getD rows (3 * i + 2) 0)
-
-unfoldable pub fragmentsIn : List ℕ → ℕ → List Fragment
-fragmentsIn rows n = from (fragmentAt rows) 0 n
 
 -- what is given only if the number before it is 1
 abbrev pub givenBy : (given n : ℕ) → Option ℕ
