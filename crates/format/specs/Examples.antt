@@ -1,11 +1,15 @@
 -- The examples E1 to E12 of document 01: one table, and one statement that what the definition gives is what the document says.
 -- Assumes nothing.
-use Prim.Native.Nat.{ℕ, _+_, _*_}
+use Prim.Native.Nat.{ℕ, _+_, _-_, _*_}
 use mathlib.Core.Path.{_≡_, refl}
 use mathlib.Core.Bool.{true, false}
 use mathlib.Core.List.{List, [], _∷_, _++_, map}
+use mathlib.Core.Option.{Option, none, some}
+use lib.ListN.{drop}
 use Rattle.format.specs.Got.{Got, is, isnt}
-use Rattle.format.specs.Number.{byte, number, join}
+use Rattle.format.specs.Lines.{endLength}
+use Rattle.format.specs.Header.{Head, header}
+use Rattle.format.specs.Number.{byte, number, joined}
 use Rattle.format.specs.Pairs.{modeOf}
 use Rattle.format.specs.Mode.{classNumberOf}
 use Rattle.format.specs.ModeStep.{stepValues, stepMasks, stepKeeps, stepNumber}
@@ -49,9 +53,23 @@ whole r = answerOf (r .answer) ∷ r .areas ∷ r .symbols ∷ r .values ∷ r .
 lent : Lent
 lent = record { areas = 64 * 6; symbols = 1024 * 5; values = 65536; masks = 65536; fixups = 1024 * 9 }
 
+-- as many bytes as an address of the text's header has, read behind the header's line end by its radix and joined in its order
+underHead : Option Head → List ℕ → Got ℕ
+underHead none s = isnt 4 0
+underHead (some h) s = joined (h .form .radix) (h .form .big) (h .form .addressLength - 1) s (h .next + endLength (drop (h .next) s))
+
+underHeader : List ℕ → Got ℕ
+unfolding underHead
+underHeader s = underHead (header s) s
+
 e1 : List ℕ
 unfolding bytesOf
 e1 = bytesOf "XH3\nH 1 areas 2 global symbols\nM demo\nS _put Ref0000\nA CSEG size 6 flags 20 addr 0\nS _go Def0000\nT 00 00 00 12 00 00 02 00 03\nR 00 00 00 00 02 04 00 00 00 07 00 00\n"
+
+-- two bytes behind a header
+e2 : List ℕ → List ℕ
+unfolding bytesOf
+e2 head = head ++ bytesOf "\n01 02"
 
 -- one content byte, and a fragment of a mode at its entry
 e10 : List ℕ → List ℕ
@@ -69,7 +87,7 @@ e12 = bytesOf "XH3\nA C size 2 flags 20\nA D size 2 flags 20\nT 00 00 01 AA BB\n
 
 -- classes are told by their numbers: Addr19 0, Addr11 1, Addr24 2, Addr16 3, Byte 4, Other 5
 pub table : List Example
-unfolding evaluate bytesOf got outcome answerOf whole lent e1 e10 e11 e12
+unfolding evaluate bytesOf got outcome answerOf whole lent underHead underHeader e1 e2 e10 e11 e12
 table =
     -- E1: the whole reading
     example (whole (reading true lent e1)) (
@@ -80,8 +98,8 @@ table =
     ∷ (0xFF ∷ 0 ∷ 0 ∷ 0xFF ∷ 0 ∷ 0 ∷ [])
     ∷ (0 ∷ 1 ∷ 2 ∷ 0x002 ∷ 1 ∷ 40 ∷ 4 ∷ 0 ∷ 0 ∷ 0 ∷ 4 ∷ 2 ∷ 0x000 ∷ 0 ∷ 0 ∷ 0 ∷ 0 ∷ 3 ∷ [])
     ∷ [])
-    -- E2: joining, big and little
-    ∷ example ((join true (1 ∷ 2 ∷ []) ∷ join false (1 ∷ 2 ∷ []) ∷ []) ∷ []) ((0x0102 ∷ 0x0201 ∷ []) ∷ [])
+    -- E2: the two bytes of a text, joined as its header says, XH2 and XL2
+    ∷ example (got (underHeader (e2 (bytesOf "XH2"))) ∷ got (underHeader (e2 (bytesOf "XL2"))) ∷ []) ((1 ∷ 0x0102 ∷ 9 ∷ []) ∷ (1 ∷ 0x0201 ∷ 9 ∷ []) ∷ [])
     -- E3: FF, 100 as bytes; FFFFFFFF, 100000000 as numbers
     ∷ example (got (byte 16 (bytesOf "FF") 0) ∷ got (byte 16 (bytesOf "100") 0) ∷ []) ((1 ∷ 0xFF ∷ 2 ∷ []) ∷ (0 ∷ 3 ∷ 0 ∷ []) ∷ [])
     ∷ example (got (number 16 (bytesOf "FFFFFFFF") 0) ∷ got (number 16 (bytesOf "100000000") 0) ∷ []) ((1 ∷ 0xFFFFFFFF ∷ 8 ∷ []) ∷ (0 ∷ 2 ∷ 0 ∷ []) ∷ [])
