@@ -5,3 +5,4 @@ pub mod Build
 pub mod Opened
 pub mod Verdict
 pub mod Theorem
+pub mod Buffers

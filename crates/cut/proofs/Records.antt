@@ -76,11 +76,11 @@ asc-records f at (l ∷ ls) =
 -- what begins behind the cut has nothing inside it
 pub inside-drop : {A : Type 0} (n : ℕ) (t : Taken A) (ts : List (Taken A)) → n < t .end → inside n (t ∷ ts) ≡ inside n ts
 unfolding inside
-inside-drop n t ts h = rw (lt-leb (t .end) n)
+inside-drop n t ts h = ap (λ (b : Bool). pick b (t ∷ inside n ts) (inside n ts)) (lt-leb _ n (omega arith))
 
 pub inside-keep : {A : Type 0} (n : ℕ) (t : Taken A) (ts : List (Taken A)) → t .end ≤ n → inside n (t ∷ ts) ≡ t ∷ inside n ts
 unfolding inside
-inside-keep n t ts h = rw (le-leb (t .end) n)
+inside-keep n t ts h = ap (λ (b : Bool). pick b (t ∷ inside n ts) (inside n ts)) (le-leb _ n (omega arith))
 
 pub behind : {A : Type 0} (n a : ℕ) (ts : List (Taken A)) → n < a → Asc a (endsOf ts) → inside n ts ≡ []
 unfolding inside
