@@ -63,6 +63,10 @@ map-snoc (x ∷ xs) d = ap (λ (l : List ℕ). worth x ∷ l) (map-snoc xs d)
 halved : (base n k : ℕ) → 2 ≤ base → n < 2 ^ suc k → n / base < 2 ^ k
 halved base n k l h = div-lt-iff-lt-mul {k = base} {x = n} {y = 2 ^ k} (omega arith) .1 (omega (arith, mul-le-mul-left (2 ^ k) l))
 
+-- a last digit behind others adds its worth to their value times the base
+last-digit : (base d n : ℕ) (front : List ℕ) → d < 16 → horner base 0 (map worth front) * base + d ≡ n → horner base 0 (map worth (front ++ digit d ∷ [])) ≡ n
+last-digit base d n front h e = rw (map-snoc, horner-snoc, digit-worth d h) e
+
 -- the digits' value is the number
 fewest-value : (base k n : ℕ) → 2 ≤ base → base ≤ 16 → n < 2 ^ k → horner base 0 (map worth (fewest base k n)) ≡ n
 unfolding fewest horner
@@ -72,7 +76,7 @@ fewest-value base (suc k) n l h i =
     (λ e. let j = ltb-true n base e in rw (digit-worth n (omega arith)) (omega arith))
     (λ e.
     let j : n % base < base = mod-lt n (omega arith) in
-    rw (map-snoc, horner-snoc, fewest-value base k (n / base) l h (halved base n k l i), digit-worth (n % base) (omega arith)) (div-add-mod' n base))
+    last-digit base _ n (fewest base k (n / base)) (omega arith) (rw (fewest-value base k (n / base) l h (halved base n k l i)) (omega (arith, div-add-mod' n base))))
 
 -- they are digits
 fewest-digits : (base k n : ℕ) → 2 ≤ base → base ≤ 16 → Each (Digit base) (fewest base k n)

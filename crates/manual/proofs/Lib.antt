@@ -16,4 +16,11 @@ pub mod PairsOfLines
 pub mod SameEffect
 pub mod OneBit
 pub mod ModeBits
+pub mod Meaning
+pub mod MeaningBits
+pub mod DatumClass
+pub mod FormBits
+pub mod ListBit
+pub mod TargetBits
+pub mod PageAndHalfBits
 pub mod Shown

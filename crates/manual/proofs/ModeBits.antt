@@ -10,15 +10,19 @@ use Rattle.format.specs.Lists.{pick}
 use Rattle.format.specs.Mode.{Addr11, Addr16, Addr19, Addr24, Byte, Class, Other, bit, classOf, gives, givesOf, moves, onSite, sizeOf, touched}
 use Rattle.format.specs.Fixups.{reference}
 use Rattle.format.specs.Target.{signedNumber, signedStart, targetOf}
-use Rattle.manual.specs.SameEffect.{AgreeBut, SameEffect}
+use Rattle.manual.specs.SameEffect.{SameEffect}
 use Rattle.manual.specs.ModeBits.{AreaOrSymbol, ByteOrWord, HighByte, PcRelative, TwoByteForm, Unsigned, difference}
 use Rattle.manual.proofs.OneBit.{one-bit-more}
 use Rattle.manual.proofs.SameEffect.{same-class, same-gives, same-reference, same-step, same-target}
 
--- bit 8 is none of the manual's eight
-no-bit-8 : (m : ℕ) → m < 256 → bit 8 m ≡ false
+-- bits 8 and 10 are none of the manual's eight
+pub no-bit-8 : (m : ℕ) → m < 256 → bit 8 m ≡ false
 unfolding bit
 no-bit-8 m h = ne-eqb (m / 2 ^ 8 % 2) 1 (λ e. omega arith)
+
+pub no-bit-10 : (m : ℕ) → m < 256 → bit 10 m ≡ false
+unfolding bit
+no-bit-10 m h = ne-eqb (m / 2 ^ 10 % 2) 1 (λ e. omega arith)
 
 size-of-byte : (t : Bool) → sizeOf (pick t Other Byte) ≡ 1
 size-of-byte true = refl
@@ -101,7 +105,8 @@ bit-4-is-unsigned m = record {
       (same-step m m′ c (a 8 refl), same-gives m m′ c (a 2 refl) (a 10 refl), same-reference m m′ (a 1 refl));
 }
 
-no-effect : (m m′ : ℕ) → classOf m ≡ classOf m′ → bit 0 m ≡ bit 0 m′ → bit 1 m ≡ bit 1 m′ → bit 2 m ≡ bit 2 m′ → bit 4 m ≡ bit 4 m′ → bit 8 m ≡ bit 8 m′ → bit 10 m ≡ bit 10 m′
+-- what no bit but 5, 6, 7 and 9 tells apart has the same effect, if the class is the same
+pub no-effect : (m m′ : ℕ) → classOf m ≡ classOf m′ → bit 0 m ≡ bit 0 m′ → bit 1 m ≡ bit 1 m′ → bit 2 m ≡ bit 2 m′ → bit 4 m ≡ bit 4 m′ → bit 8 m ≡ bit 8 m′ → bit 10 m ≡ bit 10 m′
     → SameEffect m m′
 no-effect m m′ c a b d e f g =
     record { step = same-step m m′ c f; fixup = same-gives m m′ c d g; refers = same-reference m m′ b; target = same-target m m′ c a d e f }
@@ -120,15 +125,16 @@ bit-5-has-no-effect m c = bits-5-and-6-have-no-effect m (m + 32) (λ j five six.
 pub bit-6-has-no-effect : (m : ℕ) → bit 6 m ≡ false → SameEffect m (m + 64)
 bit-6-has-no-effect m c = bits-5-and-6-have-no-effect m (m + 64) (λ j five six. one-bit-more 6 m c j six)
 
-byte-class : (m m′ : ℕ) → AgreeBut 7 m m′ → bit 0 m ≡ true → classOf m ≡ classOf m′
+-- the class of a byte goes by bits 3 and 8
+pub byte-class : (m m′ : ℕ) → bit 0 m ≡ true → bit 0 m ≡ bit 0 m′ → bit 3 m ≡ bit 3 m′ → bit 8 m ≡ bit 8 m′ → classOf m ≡ classOf m′
 unfolding classOf
-byte-class m m′ a b = rw (b, ← a 0 refl, b, a 3 refl, a 8 refl)
+byte-class m m′ b a c d = rw (b, ← a, b, c, d)
 
 pub bit-7-is-the-high-byte : (m : ℕ) → HighByte m
 unfolding classOf
 bit-7-is-the-high-byte m = record {
   of-word = λ e b. rw (b, e);
   low-word = λ e b. rw (b, e);
-  of-byte = λ m′ a b. no-effect m m′ (byte-class m m′ a b) (a 0 refl) (a 1 refl) (a 2 refl) (a 4 refl) (a 8 refl) (a 10 refl);
+  of-byte = λ m′ a b. no-effect m m′ (byte-class m m′ b (a 0 refl) (a 3 refl) (a 8 refl)) (a 0 refl) (a 1 refl) (a 2 refl) (a 4 refl) (a 8 refl) (a 10 refl);
   rest = λ m′ a. same-reference m m′ (a 1 refl);
 }

@@ -7,3 +7,5 @@ pub mod WrittenEntries
 pub mod WrittenPairs
 pub mod SameEffect
 pub mod ModeBits
+pub mod Meaning
+pub mod Meant
