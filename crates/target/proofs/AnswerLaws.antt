@@ -1,4 +1,4 @@
--- The target whole: the steps one after the other, the refusals, and the class out of the table.
+-- The target whole: the steps one after the other, what is refused, and the class out of the table.
 -- Assumes nothing.
 use Prim.Native.Nat.{ℕ, _%_, _<_, _^_, _≤_}
 use mathlib.Core.Path.{_≡_, refl, ap, _∙_}
@@ -7,7 +7,6 @@ use mathlib.Core.List.{List}
 use lib.Dec.{lit≤}
 use lib.ListN.{getD, length}
 use borrow.Author.Needs.{needs}
-use borrow.Author.Tests.{le-leb, le-ltb, lt-leb, lt-ltb}
 use Rattle.format.specs.Mode.{Addr11, Addr16, Addr19, Addr24, Byte, Class, Other, bit, onSite, sizeOf}
 use Rattle.format.specs.Outcome.{Outcome, fine, refused}
 use Rattle.format.specs.Target.{closing, high, near, numberBit, signedNumber, signedStart, startOf, target, targetOf, wrapSub}
@@ -15,7 +14,8 @@ use Rattle.mode.specs.declared.row.Row.{Row}
 use Rattle.mode.specs.Class.{classNamed, classTable}
 use Rattle.mode.specs.Row.{rowOf}
 use Rattle.mode.proofs.ClassLaws.{table-names}
-use Rattle.target.specs.Target.{reachedBy, relativeOf, targetBy}
+use Rattle.target.specs.Target.{allowed, reachedBy, relativeOf, targetBy}
+use Rattle.target.proofs.AskedLaws.{bytes-there}
 
 -- the bits are small
 high-at-most : (c : Class) → high c ≤ 23
@@ -67,27 +67,14 @@ module _ (c : Class) (big : Bool) (m n : ℕ) (bs : List ℕ) (a : ℕ) where
       → r ≡ reachedBy c big m n bs a
   reaches er = steps (ap (λ (r : Row). r .high) er) (ap (λ (r : Row). r .closing) er)
 
-  -- the refusals
-  pub mode-over : 2048 ≤ m → refused 14 0 ≡ targetBy c big m n bs a
+  -- 14, or the target
+  pub refuses : {o : Outcome ℕ} {b : Bool} → b ≡ allowed c m n (length bs) → b ≡ false → o ≡ refused 14 0 → o ≡ targetBy c big m n bs a
   unfolding targetBy
-  mode-over h = simp (le-ltb m 2048 h)
+  refuses e f eo = rw (← e, f) eo
 
-  module _ (hm : m < 2048) where
-    pub number-over : 16777216 ≤ n → refused 14 0 ≡ targetBy c big m n bs a
-    unfolding targetBy
-    number-over h = simp (lt-ltb m 2048 hm, le-ltb n (2 ^ 24) h)
-
-    module _ (hn : n < 16777216) {z : ℕ} (e : z ≡ sizeOf c) where
-      pub bytes-short : length bs < z → refused 14 0 ≡ targetBy c big m n bs a
-      unfolding targetBy
-      bytes-short h = simp (lt-ltb m 2048 hm, lt-ltb n (2 ^ 24) hn, lt-leb (sizeOf c) (length bs) (rw e at h))
-
-      pub bytes-there : z ≤ length bs → sizeOf c ≤ length bs
-      bytes-there h = rw e at h
-
-      pub target-at : {r : ℕ} → z ≤ length bs → r ≡ reachedBy c big m n bs a → fine r ≡ targetBy c big m n bs a
-      unfolding targetBy
-      target-at h er = simp (lt-ltb m 2048 hm, lt-ltb n (2 ^ 24) hn, le-leb (sizeOf c) (length bs) (rw e at h)) (ap fine er)
+  pub target-at : {r : ℕ} {b : Bool} → b ≡ allowed c m n (length bs) → b ≡ true → r ≡ reachedBy c big m n bs a → fine r ≡ targetBy c big m n bs a
+  unfolding targetBy
+  target-at e f er = rw (← e, f) (ap fine er)
 
 -- the class out of a table
 module _ (big : Bool) (m n : ℕ) (bs : List ℕ) (a : ℕ) where
@@ -95,7 +82,7 @@ module _ (big : Bool) (m n : ℕ) (bs : List ℕ) (a : ℕ) where
   by-table e f = rw f at e
 
   pub by-the-table : {t : List ℕ} {o : Outcome ℕ} → t ≡ classTable → o ≡ targetBy (classNamed (getD t (m % 2048) 0)) big m n bs a → o ≡ target big m n bs a
-  unfolding target targetOf targetBy reachedBy relativeOf onSite
+  unfolding target targetOf targetBy allowed reachedBy relativeOf onSite
   by-the-table e f = (rw (e, table-names m) at f) ∙ refl
 
-pub ruleset targets = (needs, high-small, closing-small, tested-small, reaches, mode-over, number-over, bytes-short, bytes-there, target-at, by-table, by-the-table)
+pub ruleset targets = (needs, high-small, closing-small, tested-small, reaches, refuses, bytes-there, target-at, by-table, by-the-table)

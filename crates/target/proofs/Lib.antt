@@ -1,3 +1,4 @@
+pub mod AskedLaws
 pub mod StartLaws
 pub mod AnswerLaws
 pub mod Unique

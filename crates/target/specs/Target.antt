@@ -34,6 +34,10 @@ reachedBy c big m n bs addr =
     let t = wrapSub (signedStart signed (high c) (startOf c big bs)) (signedNumber signed (numberBit c (bit 8 m)) n) in
     near (closing c) (relativeOf c m t addr) addr
 
+-- whether a mode of a class, a number and so many bytes have a target; else 14
+unfoldable pub allowed : Class → (m n len : ℕ) → Bool
+allowed c m n len = ltb m 2048 && ltb n (2 ^ 24) && leb (sizeOf c) len
+
 -- 14, or the target
 unfoldable pub targetBy : Class → Bool → (m n : ℕ) → List ℕ → (addr : ℕ) → Outcome ℕ
-targetBy c big m n bs addr = pick (ltb m 2048 && ltb n (2 ^ 24) && leb (sizeOf c) (length bs)) (fine (reachedBy c big m n bs addr)) (refused 14 0)
+targetBy c big m n bs addr = pick (allowed c m n (length bs)) (fine (reachedBy c big m n bs addr)) (refused 14 0)

@@ -1,4 +1,6 @@
 // The target of a fixup, or refusal 14.
+use crate::asked::is_allowed;
+use crate::asked::refused;
 use crate::start::has;
 use crate::start::near;
 use crate::start::number_bit;
@@ -48,26 +50,11 @@ fn target_by(
 ) -> Answer
     ensures { λ r. ⌜ told r ≡ targetBy (toldClass class) big mode number (now (bytes .entry)) address ⌝ }
 {
-    let size = mode::get_onsite_size(class);
-    if 2048 <= mode {
-        return Answer::Refused {
-            number: 14,
-            place: 0,
-        };
+    if is_allowed(class, mode, number, bytes.len()) {
+        Answer::At(reached(class, mode, big, number, address, bytes))
+    } else {
+        refused()
     }
-    if 0x100_0000 <= number {
-        return Answer::Refused {
-            number: 14,
-            place: 0,
-        };
-    }
-    if bytes.len() < size {
-        return Answer::Refused {
-            number: 14,
-            place: 0,
-        };
-    }
-    Answer::At(reached(class, mode, big, number, address, bytes))
 }
 
 // The target by the class that a lent table has for the mode: for callers that ask often and make the table once.

@@ -1,5 +1,6 @@
 // The target of a fixup, as ported.
 mod answer;
+mod asked;
 mod start;
 mod word;
 
