@@ -17,12 +17,12 @@ use Rattle.reading.specs.declared.Verdict.{Verdict}
 use Rattle.reading.specs.declared.Verdict.the-variants.{Finished, Stopped}
 use Rattle.reading.specs.declared.Answer.{Answer}
 use Rattle.reading.specs.declared.Answer.the-variants.{Accepted, Refusal}
-use Rattle.text.specs.Told.{toldHead, moreOf}
-use Rattle.text.specs.declared.Form.{Form}
-use Rattle.text.specs.declared.Width.{Width}
-use Rattle.text.specs.declared.Width.the-variants.{Four, Three, Two}
-use Rattle.text.specs.declared.Head.{Head}
-use Rattle.text.specs.declared.Head.the-variants.{Found, Missing}
+use Rattle.header.specs.Told.{toldHead, moreOf}
+use Rattle.header.specs.declared.Form.{Form}
+use Rattle.header.specs.declared.Width.{Width}
+use Rattle.header.specs.declared.Width.the-variants.{Four, Three, Two}
+use Rattle.header.specs.declared.Head.{Head}
+use Rattle.header.specs.declared.Head.the-variants.{Found, Missing}
 use Rattle.target.specs.Target as targets
 use Rattle.target.specs.declared.answer.Answer as target
 use Rattle.target.specs.declared.answer.Answer.the-variants.{At, Refused}

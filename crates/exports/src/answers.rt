@@ -1,12 +1,12 @@
 // The answers about headers and targets as numbers.
 ghost use mathlib.Core.Path.{_≡_};
 ghost use Rattle.target.specs.Target as targets;
-ghost use Rattle.text.specs.Told.{toldHead, moreOf};
+ghost use Rattle.header.specs.Told.{toldHead, moreOf};
 ghost use Rattle.format.specs.Rows.{flag};
 ghost use Prim.Native.Nat.{suc};
 ghost use Rattle.exports.specs.Numbers.{headerNumbers, targetNumbers};
-use text::Head;
-use text::Width;
+use header::Head;
+use header::Width;
 
 // What a header tells: 4 if there is none; or 0, the radix, 1 for big, and the address length.
 #[repr(C)]

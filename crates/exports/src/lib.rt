@@ -70,7 +70,7 @@ pub extern "C" fn gatecobalt_read_ended(
 pub extern "C" fn gatecobalt_header(text: &[u8]) -> HeaderNumbers
     ensures { λ r. ⌜ r ≡ headerNumbers (header (now (text .entry))) ⌝ }
 {
-    header_numbers(text::format_spec(text))
+    header_numbers(header::format_spec(text))
 }
 
 // The target of a fixup: its mode, whether the module's order is big, its number, the address of its bytes, and the bytes.

@@ -12,30 +12,32 @@ use Rattle.format.specs.Number.{joined}
 use Rattle.format.specs.Header as the
 use Rattle.format.specs.Entries.{Entry, areaLine, symbolLine, entryLine}
 use Rattle.format.specs.Pairs as pairs
-use Rattle.text.specs.Told.{told, moreOf, formOf, toldHead}
-use Rattle.text.specs.Lines.{LineIs}
-use Rattle.text.specs.declared.LineAt.{LineAt}
-use Rattle.text.specs.declared.Num.{Num}
-use Rattle.text.specs.declared.Num.the-variants.{Is, No}
-use Rattle.text.specs.declared.Width.{Width}
-use Rattle.text.specs.declared.Width.the-variants.{Two, Three, Four}
-use Rattle.text.specs.declared.Form.{Form}
-use Rattle.text.specs.declared.Head.{Head}
-use Rattle.text.specs.declared.Head.the-variants.{Found, Missing}
-use Rattle.line.specs.Told.{went, addrOf, toldEntry, entryOf}
-use Rattle.line.specs.Pairs.{Contents, Relocations, toldContent, toldRelocation}
-use Rattle.line.specs.declared.Place.{Place}
-use Rattle.line.specs.declared.Place.the-variants.{At, Not}
-use Rattle.line.specs.declared.Addr.{Addr}
-use Rattle.line.specs.declared.Addr.the-variants.{Given, Absent}
-use Rattle.line.specs.declared.Entry as code
-use Rattle.line.specs.declared.Entry.the-variants.{Area, Symbol, Ignored}
-use Rattle.line.specs.declared.EntryLine as entries
-use Rattle.line.specs.declared.EntryLine.the-variants as of
-use Rattle.line.specs.declared.ContentLine.{ContentLine}
-use Rattle.line.specs.declared.ContentLine.the-variants.{Content, NoContent}
-use Rattle.line.specs.declared.RelocationLine.{RelocationLine}
-use Rattle.line.specs.declared.RelocationLine.the-variants.{Relocation, NoRelocation}
+use Rattle.numbers.specs.Told.{told}
+use Rattle.header.specs.Told.{moreOf, formOf, toldHead}
+use Rattle.scan.specs.Lines.{LineIs}
+use Rattle.scan.specs.declared.LineAt.{LineAt}
+use Rattle.numbers.specs.declared.Num.{Num}
+use Rattle.numbers.specs.declared.Num.the-variants.{Is, No}
+use Rattle.header.specs.declared.Width.{Width}
+use Rattle.header.specs.declared.Width.the-variants.{Two, Three, Four}
+use Rattle.header.specs.declared.Form.{Form}
+use Rattle.header.specs.declared.Head.{Head}
+use Rattle.header.specs.declared.Head.the-variants.{Found, Missing}
+use Rattle.fields.specs.Told.{went}
+use Rattle.entry_line.specs.Told.{addrOf, toldEntry, entryOf}
+use Rattle.pair_line.specs.Pairs.{Contents, Relocations, toldContent, toldRelocation}
+use Rattle.fields.specs.declared.Place.{Place}
+use Rattle.fields.specs.declared.Place.the-variants.{At, Not}
+use Rattle.entry_line.specs.declared.Addr.{Addr}
+use Rattle.entry_line.specs.declared.Addr.the-variants.{Given, Absent}
+use Rattle.entry_line.specs.declared.Entry as code
+use Rattle.entry_line.specs.declared.Entry.the-variants.{Area, Symbol, Ignored}
+use Rattle.entry_line.specs.declared.EntryLine as entries
+use Rattle.entry_line.specs.declared.EntryLine.the-variants as of
+use Rattle.pair_line.specs.declared.ContentLine.{ContentLine}
+use Rattle.pair_line.specs.declared.ContentLine.the-variants.{Content, NoContent}
+use Rattle.pair_line.specs.declared.RelocationLine.{RelocationLine}
+use Rattle.pair_line.specs.declared.RelocationLine.the-variants.{Relocation, NoRelocation}
 use Rattle.probe_line.specs.Rows.{widthOf, formFrom, rowOf, valueRow, haltRow, flag, numberRow, placeRow, headRow, givenAddr, addrValue, takenRow, entryRow, sizedRow, ContentRow, RelocationRow, LineRow}
 use Rattle.probe_line.specs.declared.Row.{Row}
 

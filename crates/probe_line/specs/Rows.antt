@@ -13,10 +13,10 @@ use Rattle.format.specs.Header as the
 use Rattle.format.specs.Entries.{Entry, ignored, area, symbol}
 use Rattle.format.specs.Pairs as pairs
 use Rattle.laws.specs.Places.{lineEnd, endAt, nextLine}
-use Rattle.text.specs.declared.Form.{Form}
-use Rattle.text.specs.declared.Width.{Width}
-use Rattle.text.specs.declared.Width.the-variants.{Two, Three, Four}
-use Rattle.line.specs.Pairs.{Sized, sized, counted, bytesIn, numbered, fragmentsIn, Rows}
+use Rattle.header.specs.declared.Form.{Form}
+use Rattle.header.specs.declared.Width.{Width}
+use Rattle.header.specs.declared.Width.the-variants.{Two, Three, Four}
+use Rattle.pair_line.specs.Pairs.{Sized, sized, counted, bytesIn, numbered, fragmentsIn, Rows}
 use Rattle.probe_line.specs.declared.Row.{Row}
 
 -- the address length out of its number

@@ -1,21 +1,23 @@
 // Rows of numbers for the readers' answers.
 ghost use mathlib.Core.Path.{_≡_};
 ghost use Prim.Native.Nat.{suc};
-ghost use Rattle.text.specs.Told.{told, moreOf, toldHead};
-ghost use Rattle.line.specs.Told.{went, addrOf, toldEntry, entryOf};
-ghost use Rattle.line.specs.Pairs.{toldContent, toldRelocation};
+ghost use Rattle.numbers.specs.Told.{told};
+ghost use Rattle.header.specs.Told.{moreOf, toldHead};
+ghost use Rattle.fields.specs.Told.{went};
+ghost use Rattle.entry_line.specs.Told.{addrOf, toldEntry, entryOf};
+ghost use Rattle.pair_line.specs.Pairs.{toldContent, toldRelocation};
 ghost use Rattle.probe_line.specs.Rows.{widthOf, formFrom, haltRow, valueRow, rowOf, flag, numberRow, placeRow, headRow, givenAddr, addrValue, takenRow, entryRow, sizedRow, LineRow};
 use crate::Row;
-use line::Addr;
-use line::ContentLine;
-use line::Entry;
-use line::EntryLine;
-use line::Place;
-use line::RelocationLine;
-use text::Form;
-use text::Head;
-use text::Num;
-use text::Width;
+use entry_line::Addr;
+use entry_line::Entry;
+use entry_line::EntryLine;
+use fields::Place;
+use header::Form;
+use header::Head;
+use header::Width;
+use numbers::Num;
+use pair_line::ContentLine;
+use pair_line::RelocationLine;
 
 // The address length: two, three, or else four.
 pub(crate) fn width_from(width: u8) -> Width
@@ -136,7 +138,7 @@ pub(crate) fn head_row(h: Head) -> Row
 pub(crate) fn line_row(t: &[u8], at: usize) -> Row
     ensures { λ r. ⌜ LineRow (now (t .entry)) at r ⌝ }
 {
-    let l = text::line_at(t, at);
+    let l = scan::line_at(t, at);
     values(l.next, l.end as u64, l.ends as u64, 0)
 }
 

@@ -22,17 +22,17 @@ use borrow.Author.Needs.{needs}
 use borrow.Author.Tests.{lt-ltb, le-ltb, eq-eqb, ne-eqb, leb-true}
 use Rattle.laws.specs.Places.{entryAt}
 use Rattle.laws.proofs.Within.{Holds, EntryIn, Named, entry-in}
-use Rattle.line.specs.Told.{entryOf, toldEntry, addrOf}
-use Rattle.line.specs.declared.Entry.{Entry}
-use Rattle.line.specs.declared.Entry.the-variants.{Area, Symbol, Ignored}
-use Rattle.line.specs.declared.EntryLine.{EntryLine}
-use Rattle.line.specs.declared.EntryLine.the-variants.{Is, No}
+use Rattle.entry_line.specs.Told.{entryOf, toldEntry, addrOf}
+use Rattle.entry_line.specs.declared.Entry.{Entry}
+use Rattle.entry_line.specs.declared.Entry.the-variants.{Area, Symbol, Ignored}
+use Rattle.entry_line.specs.declared.EntryLine.{EntryLine}
+use Rattle.entry_line.specs.declared.EntryLine.the-variants.{Is, No}
 use Rattle.reading.specs.GroupOne.{LineIs, StepIn, EntryFits, Placed, Adds}
 use Rattle.reading.specs.declared.rows_in.Added.{Added}
 use Rattle.reading.specs.declared.rows_in.Added.the-variants.{Room, Full}
-use Rattle.line.specs.declared.Addr.{Addr}
-use Rattle.text.specs.Lines as lines
-use Rattle.text.specs.declared.LineAt.{LineAt}
+use Rattle.entry_line.specs.declared.Addr.{Addr}
+use Rattle.scan.specs.Lines as lines
+use Rattle.scan.specs.declared.LineAt.{LineAt}
 use Rattle.reading.specs.declared.group_one.EntryStep.the-variants.{Stops, Takes}
 
 -- `whole`

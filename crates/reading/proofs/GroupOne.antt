@@ -21,11 +21,11 @@ use Rattle.format.specs.Entries as entries
 use Rattle.format.specs.Pairs as pairs
 use Rattle.laws.specs.Places.{nextLine, entryAt, recordsAt, pairsAt}
 use Rattle.laws.proofs.Places.{records-at}
-use Rattle.text.proofs.Laws.Tests.{was-no, was-yes}
-use Rattle.line.specs.Told.{entryOf, nameOf, addrOf}
-use Rattle.line.specs.declared.Entry.{Entry}
-use Rattle.line.specs.declared.Addr.{Addr}
-use Rattle.line.specs.declared.Entry.the-variants as of
+use Rattle.scan.proofs.Laws.Tests.{was-no, was-yes}
+use Rattle.entry_line.specs.Told.{entryOf, nameOf, addrOf}
+use Rattle.entry_line.specs.declared.Entry.{Entry}
+use Rattle.entry_line.specs.declared.Addr.{Addr}
+use Rattle.entry_line.specs.declared.Entry.the-variants as of
 use Rattle.reading.specs.GroupOne.{toldStep, StepBounds, StepIn, EntryFits, Placed, Adds, refusalOf, Hold, foundOf, Grouped}
 use Rattle.reading.specs.declared.group_one.EntryStep.{EntryStep}
 use Rattle.reading.specs.declared.group_one.EntryStep.the-variants.{Stops, Takes}

@@ -23,11 +23,11 @@ use Rattle.laws.specs.Places.{pairAt, pairsAt}
 use Rattle.laws.specs.Rows.{from, areasIn, tablesIn, stateOf}
 use Rattle.laws.proofs.Places.{pairs-at}
 use Rattle.mode.specs.Class.{classTable}
-use Rattle.text.specs.Told.{formOf, moreOf}
-use Rattle.text.specs.declared.Form as text
-use Rattle.text.specs.declared.Width.{Width}
-use Rattle.text.specs.declared.Width.the-variants as wide
-use Rattle.line.specs.Pairs.{Rows}
+use Rattle.header.specs.Told.{formOf, moreOf}
+use Rattle.header.specs.declared.Form as text
+use Rattle.header.specs.declared.Width.{Width}
+use Rattle.header.specs.declared.Width.the-variants as wide
+use Rattle.pair_line.specs.Pairs.{Rows}
 use Rattle.place.specs.Columns.{fragmentAt, fragmentsIn}
 use Rattle.place.specs.Pair.{contentOf, pairOf, pairIn, fits as fitsIn, told, usedNow, PairPlaced}
 use Rattle.homes.specs.Home.{homeAt}

@@ -26,7 +26,7 @@ use Rattle.place.specs.Group.{areasFor, roomFor, Regrouped}
 use Rattle.homes.specs.Home.{noHome, homeAt}
 use Rattle.homes.proofs.Laws.{home-past}
 use Rattle.place.specs.declared.group.Grouped as place
-use Rattle.text.proofs.Laws.Tests.{was-no, was-yes}
+use Rattle.scan.proofs.Laws.Tests.{was-no, was-yes}
 use Rattle.reading.specs.Answer.{toldCounts, held}
 use Rattle.reading.specs.WayIn.{Rooms}
 use Rattle.reading.specs.GroupOne.{Hold, Read, Grouped}

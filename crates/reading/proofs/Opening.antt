@@ -21,10 +21,10 @@ use Rattle.format.specs.Reading as paper
 use Rattle.format.specs.Held.{Held, lengths, Meets}
 use Rattle.laws.specs.Places.{recordsAt}
 use Rattle.laws.proofs.Unique.{no-second-answer-fits-through}
-use Rattle.text.specs.Told.{toldHead, formOf}
-use Rattle.text.specs.declared.Form as text
-use Rattle.text.specs.declared.Head.{Head}
-use Rattle.text.specs.declared.Head.the-variants.{Found, Missing}
+use Rattle.header.specs.Told.{toldHead, formOf}
+use Rattle.header.specs.declared.Form as text
+use Rattle.header.specs.declared.Head.{Head}
+use Rattle.header.specs.declared.Head.the-variants.{Found, Missing}
 use Rattle.reading.specs.Answer.{told, toldCounts, toldVerdict, held}
 use Rattle.reading.specs.WayIn.{Rooms, GateIs}
 use Rattle.reading.specs.Laid.{Whole, wholeOf, wholeLines, wholeText, layOf, Laid, HeaderOnly}

@@ -22,13 +22,13 @@ use Rattle.format.specs.Records.{Step, stops, last, goes, stepOf}
 use Rattle.format.specs.Pairs as the
 use Rattle.laws.specs.Places.{nextLine, lineAt, pairAt}
 use Rattle.laws.proofs.Within.{Holds, PairIn, pair-in, Upto, relocation-keeps}
-use Rattle.line.specs.Pairs.{Contents, Relocations, bytesIn, counted as countedOf, toldContent, fragmentsIn, numbered, toldRelocation, modes, entries, indexes, Rows}
-use Rattle.line.specs.declared.ContentLine.{ContentLine}
-use Rattle.line.specs.declared.ContentLine.the-variants.{Content, NoContent}
-use Rattle.line.specs.declared.RelocationLine.{RelocationLine}
-use Rattle.line.specs.declared.RelocationLine.the-variants.{Relocation, NoRelocation}
-use Rattle.line.proofs.Laws.Content.{content-is, content-count, content-isnt, whole-is}
-use Rattle.line.proofs.Laws.Relocations.{relocation-is, relocation-count, relocation-isnt}
+use Rattle.pair_line.specs.Pairs.{Contents, Relocations, bytesIn, counted as countedOf, toldContent, fragmentsIn, numbered, toldRelocation, modes, entries, indexes, Rows}
+use Rattle.pair_line.specs.declared.ContentLine.{ContentLine}
+use Rattle.pair_line.specs.declared.ContentLine.the-variants.{Content, NoContent}
+use Rattle.pair_line.specs.declared.RelocationLine.{RelocationLine}
+use Rattle.pair_line.specs.declared.RelocationLine.the-variants.{Relocation, NoRelocation}
+use Rattle.pair_line.proofs.Laws.Content.{content-is, content-count, content-isnt, whole-is}
+use Rattle.pair_line.proofs.Laws.Relocations.{relocation-is, relocation-count, relocation-isnt}
 use Rattle.reading.specs.PairLines.{none, caseOf, lineOf, AsLong, BodyIs, PairSays, PairIs, StepSays, PairStepIs, UsedBounds, UsedIn, stepFrom}
 use Rattle.reading.specs.declared.pair.Body.{Body}
 use Rattle.reading.specs.declared.pair.Body.the-variants.{Skipped, Placed}
@@ -37,7 +37,7 @@ use Rattle.reading.specs.declared.pair.PairLine.the-variants.{Pair, NoPa
 use Rattle.reading.specs.declared.pair.PairStep.{PairStep}
 use Rattle.reading.specs.declared.pair.PairStep.the-variants.{Ends, Takes}
 use Rattle.reading.specs.GroupOne.{LineIs}
-use Rattle.text.specs.declared.LineAt.{LineAt}
+use Rattle.scan.specs.declared.LineAt.{LineAt}
 use Rattle.reading.proofs.EntryLines.{end-in, some-end}
 
 -- `any_line`

@@ -12,7 +12,7 @@ use lib.Dec.{leb}
 use borrow.Author.Needs.{needs}
 use borrow.Author.Tests.{lt-ltb, le-ltb, le-leb, lt-leb, leb-true}
 use Rattle.format.specs.Reading.{lentRoom, firstHigh, allowed}
-use Rattle.text.proofs.Laws.Tests.{was-no, was-yes}
+use Rattle.scan.proofs.Laws.Tests.{was-no, was-yes}
 use Rattle.reading.specs.WayIn.{highOf, Caps, roomy, Rooms, GateIs}
 use Rattle.reading.specs.declared.way_in.Lent.{Lent}
 use Rattle.reading.specs.declared.way_in.Gate.the-variants.{Open, Shut}

@@ -16,10 +16,10 @@ use Rattle.format.specs.Rows.{areaNumbers, symbolNumbers}
 use Rattle.format.specs.Entries as entries
 use Rattle.format.specs.Pairs as pairs
 use Rattle.laws.specs.Places.{lineEnd, endAt, nextLine, recordsAt, pairsAt}
-use Rattle.text.specs.declared.LineAt.{LineAt}
-use Rattle.line.specs.Told.{entryOf, nameOf, addrOf}
-use Rattle.line.specs.declared.Entry.{Entry}
-use Rattle.line.specs.declared.Entry.the-variants.{Area, Symbol, Ignored}
+use Rattle.scan.specs.declared.LineAt.{LineAt}
+use Rattle.entry_line.specs.Told.{entryOf, nameOf, addrOf}
+use Rattle.entry_line.specs.declared.Entry.{Entry}
+use Rattle.entry_line.specs.declared.Entry.the-variants.{Area, Symbol, Ignored}
 use Rattle.reading.specs.declared.group_one.EntryStep.{EntryStep}
 use Rattle.reading.specs.declared.group_one.EntryStep.the-variants.{Stops, Takes}
 use Rattle.reading.specs.declared.rows_in.Added.{Added}

@@ -16,8 +16,8 @@ use Rattle.format.specs.Placing.{State, placePair}
 use Rattle.laws.specs.Places.{pairsAt}
 use Rattle.laws.specs.Rows.{areasIn, tablesIn, stateOf}
 use Rattle.mode.specs.Class.{classTable}
-use Rattle.text.specs.Told.{moreOf}
-use Rattle.text.specs.declared.Form as text
+use Rattle.header.specs.Told.{moreOf}
+use Rattle.header.specs.declared.Form as text
 use Rattle.homes.specs.Home.{homeAt}
 use Rattle.place.specs.Pair.{pairOf}
 use Rattle.homes.specs.declared.Home.{Home}

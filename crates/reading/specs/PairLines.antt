@@ -13,8 +13,8 @@ use Rattle.format.specs.Header.{Form}
 use Rattle.format.specs.Records.{Step, stops, last, goes}
 use Rattle.format.specs.Pairs as the
 use Rattle.laws.specs.Places.{nextLine, pairAt}
-use Rattle.line.specs.Pairs.{Rows}
-use Rattle.text.specs.declared.LineAt.{LineAt}
+use Rattle.pair_line.specs.Pairs.{Rows}
+use Rattle.scan.specs.declared.LineAt.{LineAt}
 use Rattle.reading.specs.declared.pair.Body.{Body}
 use Rattle.reading.specs.declared.pair.Body.the-variants.{Skipped, Placed}
 use Rattle.reading.specs.declared.pair.PairLine.{PairLine}

@@ -1,7 +1,7 @@
 // Both groups behind the header, and what they leave in the lent buffers.
 ghost use Prim.Native.Nat.{_≤_};
 ghost use lib.ListN.{length};
-ghost use Rattle.text.specs.Told.{formOf};
+ghost use Rattle.header.specs.Told.{formOf};
 ghost use Rattle.reading.specs.Answer.{held};
 ghost use Rattle.reading.specs.WayIn.{Rooms};
 ghost use Rattle.reading.specs.Laid.{Laid, wholeLines};
@@ -10,7 +10,7 @@ use crate::answers::refuse_one;
 use crate::group_one::One;
 use crate::group_one::group_one;
 use crate::images::rest;
-use text::Form;
+use header::Form;
 
 // Both groups from a place on, behind a header that ended at head.
 pub(crate) fn read_lines(

@@ -3,16 +3,16 @@ ghost use mathlib.Core.Path.{_≡_};
 ghost use Prim.Native.Nat.{_≤_};
 ghost use lib.ListN.{length};
 ghost use Rattle.laws.specs.Places.{entryAt};
-ghost use Rattle.text.specs.Told.{formOf};
+ghost use Rattle.header.specs.Told.{formOf};
 ghost use Rattle.reading.specs.GroupOne.{toldStep, StepIn, refusalOf, foundOf, Grouped};
 use crate::lines::line_at;
 use crate::lines::record_end;
 use crate::lines::whole;
 use crate::rows_in::Added;
 use crate::rows_in::add_entry;
-use line::Entry;
-use line::EntryLine;
-use text::Form;
+use entry_line::Entry;
+use entry_line::EntryLine;
+use header::Form;
 
 // What a line does to group one: it stops it, or is taken; then where its record ends, where the next line begins, and whether the reading goes on there.
 enum EntryStep {
@@ -47,7 +47,7 @@ fn entry_step(t: &[u8], p: usize, form: Form, ended: bool) -> EntryStep
 {
     let l = line_at(t, p);
     let q = l.end;
-    let EntryLine::Is { entry, used } = line::parse_entry(&t[p..q], form) else {
+    let EntryLine::Is { entry, used } = entry_line::parse_entry(&t[p..q], form) else {
         return EntryStep::Stops;
     };
     if whole(used, q - p, l.ends) {

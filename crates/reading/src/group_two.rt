@@ -3,14 +3,14 @@ ghost use mathlib.Core.Path.{_≡_};
 ghost use Prim.Native.Nat.{_≤_};
 ghost use lib.ListN.{length};
 ghost use Rattle.mode.specs.Class.{classTable};
-ghost use Rattle.text.specs.Told.{formOf};
+ghost use Rattle.header.specs.Told.{formOf};
 ghost use Rattle.reading.specs.Onward.{Ready, Columns, twoOf, GroupedTwo, onwardAt};
 use crate::plan::Going;
 use crate::plan::Turn;
 use crate::plan::Two;
 use crate::plan::ending;
 use crate::turn::take_turn;
-use text::Form;
+use header::Form;
 
 // The answer of the last turn.
 fn two_of(u: Turn) -> Two

@@ -1,7 +1,7 @@
 // Group two behind the tables, over images of two sizes: the large ones are made only where the small ones are too short.
 ghost use Prim.Native.Nat.{_≤_};
 ghost use lib.ListN.{length};
-ghost use Rattle.text.specs.Told.{formOf};
+ghost use Rattle.header.specs.Told.{formOf};
 ghost use Rattle.reading.specs.Answer.{held};
 ghost use Rattle.reading.specs.WayIn.{Rooms};
 ghost use Rattle.reading.specs.Laid.{startingOf, Begun, Blank, RestIs};
@@ -17,7 +17,7 @@ use crate::second::second_over;
 use crate::second::starting;
 use crate::sizes::Sizes;
 use crate::sizes::sizes_of;
-use text::Form;
+use header::Form;
 
 // Over lent images of zeros. These and the rows are laid over the lent buffers once nothing is refused.
 fn over_images(

@@ -5,17 +5,17 @@ ghost use Prim.Native.Nat.{_≤_, _+_};
 ghost use lib.ListN.{length, getD};
 ghost use lib.Dec.{eqb, leb};
 ghost use Rattle.format.specs.Pairs.{skippedOf, pairOf};
-ghost use Rattle.text.specs.Told.{formOf};
+ghost use Rattle.header.specs.Told.{formOf};
 ghost use Rattle.reading.specs.PairLines.{lineOf, caseOf, AsLong, PairIs, PairStepIs, UsedIn, stepFrom};
-use text::LineAt;
+use scan::LineAt;
 ghost use Rattle.reading.specs.declared.pair.Body.the-variants.{Placed};
 ghost use Rattle.reading.specs.declared.pair.PairLine.the-variants.{Pair};
 use crate::lines::line_at;
 use crate::lines::record_end;
 use crate::lines::whole;
-use line::ContentLine;
-use line::RelocationLine;
-use text::Form;
+use pair_line::ContentLine;
+use pair_line::RelocationLine;
+use header::Form;
 
 // What a pair is. Its content stands in the lent bytes, its fragments in the lent columns.
 pub(crate) enum Body {
@@ -49,7 +49,7 @@ pub(crate) enum PairStep {
 fn any_line(t: &[u8], letter: u8) -> bool
     ensures { λ r. ⌜ r ≡ (eqb (getD (now (t .entry)) 0 0) letter && leb 2 (length (now (t .entry)))) ⌝ }
 {
-    if text::byte_at(t, 0) == letter {
+    if scan::byte_at(t, 0) == letter {
         return 2 <= t.len();
     }
     false
@@ -102,7 +102,7 @@ fn read_pair(
     ensures { λ r. ⌜ PairIs (pairOf (formOf form) width (now (a .entry)) (now (b .entry))) r (now (bytes .entry)) (now (ms .entry)) (now (es .entry)) (now (xs .entry)) (now (bytes .exit)) (now (ms .exit)) (now (es .exit)) (now (xs .exit)) ⌝ }
     ensures { λ r. ⌜ AsLong (now (bytes .entry)) (now (ms .entry)) (now (es .entry)) (now (xs .entry)) (now (bytes .exit)) (now (ms .exit)) (now (es .exit)) (now (xs .exit)) ⌝ }
 {
-    let c = line::whole_content(a, form, bytes);
+    let c = pair_line::whole_content(a, form, bytes);
     let ContentLine::Content {
         address,
         count,
@@ -111,7 +111,7 @@ fn read_pair(
     else {
         return skipped_pair(a, b, width);
     };
-    let r = line::parse_reloc_line(b, form, ms, es, xs);
+    let r = pair_line::parse_reloc_line(b, form, ms, es, xs);
     let RelocationLine::Relocation {
         area,
         count: fragments,

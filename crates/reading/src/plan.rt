@@ -1,14 +1,14 @@
 // Group two, one step: how it goes on from a pair, before the pair is placed; refusals 7 and 8.
 ghost use mathlib.Core.Path.{_≡_};
 ghost use Prim.Native.Nat.{_≤_, suc};
-ghost use Rattle.text.specs.Told.{moreOf};
+ghost use Rattle.header.specs.Told.{moreOf};
 ghost use Rattle.reading.specs.Onward.{endingOf, afterOf, steppedOf, standingIn, overOf, placedOf, planOf, turnOf};
 use crate::pair::Body;
 use crate::pair::PairStep;
 use homes::Home;
 use place::Line;
-use text::Form;
-use text::Width;
+use header::Form;
+use header::Width;
 
 // How placing stands: so many fixup rows are made; or a refusal is kept, to be given if no 7 or 8 follows.
 pub(crate) enum Standing {

@@ -5,13 +5,13 @@ ghost use Prim.Native.Nat.{_≤_, _+_, _*_};
 ghost use lib.Seq.{sets};
 ghost use Rattle.format.specs.Rows.{flag, given};
 ghost use Rattle.format.specs.Tables.{orZero};
-ghost use Rattle.line.specs.Told.{addrOf};
+ghost use Rattle.entry_line.specs.Told.{addrOf};
 ghost use Rattle.reading.specs.GroupOne.{Adds, Placed};
 ghost use Rattle.reading.specs.declared.rows_in.Added.the-variants.{Room};
 use crate::group_one::Found;
 use cells::put_u32;
-use line::Addr;
-use line::Entry;
+use entry_line::Addr;
+use entry_line::Entry;
 
 // How many rows there are with the entry; or the number of the refusal.
 pub(crate) enum Added {

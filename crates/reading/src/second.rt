@@ -2,7 +2,7 @@
 ghost use mathlib.Core.Path.{_≡_};
 ghost use Prim.Native.Nat.{_≤_};
 ghost use lib.ListN.{length};
-ghost use Rattle.text.specs.Told.{formOf};
+ghost use Rattle.header.specs.Told.{formOf};
 ghost use Rattle.reading.specs.Onward.{Ready};
 ghost use Rattle.reading.specs.Laid.{goingAt, startingOf, SecondIs};
 use crate::group_one::Found;
@@ -12,7 +12,7 @@ use crate::plan::Standing;
 use crate::plan::Two;
 use crate::plan::ending;
 use homes::Home;
-use text::Form;
+use header::Form;
 
 // Group two before its first pair, over so many positions. The home is that of the index behind the last area, which is none.
 fn going_at(found: Found, positions: usize, on: bool, standing: Standing) -> Going

@@ -4,7 +4,7 @@ ghost use Prim.Native.Nat.{_≤_};
 ghost use lib.ListN.{length};
 ghost use Rattle.mode.specs.Class.{classTable};
 ghost use Rattle.homes.specs.Home.{homeAt};
-ghost use Rattle.text.specs.Told.{formOf};
+ghost use Rattle.header.specs.Told.{formOf};
 ghost use Rattle.reading.specs.Onward.{standingOf, filledOf, Ready, PlaceReady, Columns, Advances, TurnIs, onwardAt};
 use crate::pair::pair_step;
 use crate::plan::Going;
@@ -19,7 +19,7 @@ use homes::Home;
 use place::Filled;
 use place::Line;
 use place::Placed;
-use text::Form;
+use header::Form;
 
 // How placing stands after a pair.
 fn standing_of(r: Placed) -> Standing

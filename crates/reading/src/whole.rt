@@ -13,7 +13,7 @@ use crate::lines::record_end;
 use crate::way_in::Gate;
 use crate::way_in::Lent;
 use crate::way_in::admit;
-use text::Head;
+use header::Head;
 
 // A text of n bytes with a header that ends at a place and no line end behind it.
 fn header_only(ended: bool, n: usize, next: usize) -> Answer
@@ -49,13 +49,13 @@ fn read_text(
     requires { ⌜ (length (now t) ≤ 65536) × (Rooms (length (now areas)) (length (now symbols)) (length (now values)) (length (now masks)) (length (now fixups))) ⌝ }
     ensures { λ r. ⌜ Laid (length (now (t .entry))) (wholeText ended (now (t .entry))) (held (now (areas .entry)) (now (symbols .entry)) (now (values .entry)) (now (masks .entry)) (now (fixups .entry))) r (held (now (areas .exit)) (now (symbols .exit)) (now (values .exit)) (now (masks .exit)) (now (fixups .exit))) ⌝ }
 {
-    let Head::Found { form, next } = text::format_spec(t) else {
+    let Head::Found { form, next } = header::format_spec(t) else {
         return Answer::Refusal {
             number: 4,
             place: 0,
         };
     };
-    let e = text::line_ending(t, next);
+    let e = scan::line_ending(t, next);
     if e == 0 {
         return header_only(ended, t.len(), next);
     }

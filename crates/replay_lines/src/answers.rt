@@ -3,16 +3,16 @@ use crate::Answer;
 use crate::sums::content_sum;
 use crate::sums::fragment_sum;
 use crate::sums::name_sum;
-use line::Addr;
-use line::ContentLine;
-use line::Entry;
-use line::EntryLine;
-use line::Place;
-use line::RelocationLine;
-use text::Form;
-use text::Head;
-use text::Num;
-use text::Width;
+use entry_line::Addr;
+use entry_line::Entry;
+use entry_line::EntryLine;
+use fields::Place;
+use header::Form;
+use header::Head;
+use header::Width;
+use numbers::Num;
+use pair_line::ContentLine;
+use pair_line::RelocationLine;
 
 // A text that is not read.
 fn none() -> Answer {
@@ -160,9 +160,9 @@ fn of_content(t: &[u8], form: Form, whole: bool) -> Answer {
 // A T line, which may have to be used whole.
 fn content(t: &[u8], form: Form, whole: bool, bytes: &mut [u8; 256]) -> ContentLine {
     if whole {
-        return line::whole_content(t, form, bytes);
+        return pair_line::whole_content(t, form, bytes);
     }
-    line::parse_content(t, form, bytes)
+    pair_line::parse_content(t, form, bytes)
 }
 
 // An R line: its area's index, the count of its fragments and their sum.
@@ -170,7 +170,7 @@ fn of_relocation(t: &[u8], form: Form) -> Answer {
     let mut modes = [0u32; 64];
     let mut entries = [0u32; 64];
     let mut indexes = [0u32; 64];
-    match line::parse_reloc_line(t, form, &mut modes, &mut entries, &mut indexes) {
+    match pair_line::parse_reloc_line(t, form, &mut modes, &mut entries, &mut indexes) {
         RelocationLine::Relocation { area, count, used } => {
             let sum = fragment_sum(&modes, &entries, &indexes, count);
             some(used, area as u64, count as u64, sum, 0, 0)
@@ -183,11 +183,11 @@ fn of_relocation(t: &[u8], form: Form) -> Answer {
 fn of_small(reader: u32, form: Form, t: &[u8]) -> Answer {
     let width = form.width;
     match reader {
-        0 => of_number(text::parse_number(t, 0, form.radix)),
-        1 => of_number(text::parse_byte(t, 0, form.radix)),
-        2 => of_number(text::parse_multi_number(t, 0, form.radix, form.big, width)),
-        3 => of_number(text::parse_area_index(t, 0, form.radix, form.big)),
-        _ => of_number(line::parse_extended_mode(t, 0, form.radix)),
+        0 => of_number(numbers::parse_number(t, 0, form.radix)),
+        1 => of_number(numbers::parse_byte(t, 0, form.radix)),
+        2 => of_number(joined::parse_multi_number(t, 0, form.radix, form.big, width)),
+        3 => of_number(joined::parse_area_index(t, 0, form.radix, form.big)),
+        _ => of_number(pair_line::parse_extended_mode(t, 0, form.radix)),
     }
 }
 
@@ -195,13 +195,13 @@ fn of_small(reader: u32, form: Form, t: &[u8]) -> Answer {
 pub(crate) fn answer(reader: u32, form: Form, t: &[u8]) -> Answer {
     match reader {
         0..=4 => of_small(reader, form, t),
-        5 => of_head(text::format_spec(t)),
-        6 => of_place(line::ignore_line(t, b"OHM")),
-        7 => of_place(line::ignore_line(t, b"T")),
-        8 => of_place(line::ignore_line(t, b"P")),
-        9 => of_entry(t, line::parse_area(t, form)),
-        10 => of_entry(t, line::parse_symdefref(t, form)),
-        11 => of_entry(t, line::parse_entry(t, form)),
+        5 => of_head(header::format_spec(t)),
+        6 => of_place(fields::ignore_line(t, b"OHM")),
+        7 => of_place(fields::ignore_line(t, b"T")),
+        8 => of_place(fields::ignore_line(t, b"P")),
+        9 => of_entry(t, entry_line::parse_area(t, form)),
+        10 => of_entry(t, entry_line::parse_symdefref(t, form)),
+        11 => of_entry(t, entry_line::parse_entry(t, form)),
         12 => of_content(t, form, false),
         13 => of_content(t, form, true),
         _ => of_relocation(t, form),

@@ -3,15 +3,15 @@ ghost use Prim.Native.Nat.{_≤_};
 use crate::Answer;
 use crate::Counts;
 use crate::answers::answer;
-use text::Form;
-use text::Kind;
-use text::Num;
-use text::Width;
+use header::Form;
+use header::Width;
+use numbers::Num;
+use scan::Kind;
 
 // A number of a case behind blanks, or the place where there is none.
 fn number_at(t: &[u8], at: usize) -> Num {
-    let a = text::past_kind(t, at, Kind::Blank);
-    text::parse_number(t, a, 16)
+    let a = scan::past_kind(t, at, Kind::Blank);
+    numbers::parse_number(t, a, 16)
 }
 
 // The eleven numbers of a case into what was lent, and the place behind them; or the length where they are not there.
@@ -95,7 +95,7 @@ fn agrees(t: &[u8]) -> bool {
     let mut n = [0u32; 11];
     let p = numbers(t, &mut n);
     let mut bytes = [0u8; 256];
-    let run = text::parse_byte_many(t, p, 16, &mut bytes);
+    let run = numbers::parse_byte_many(t, p, 16, &mut bytes);
     if run.end != t.len() {
         return false;
     }
@@ -115,7 +115,7 @@ pub(crate) fn replay(t: &[u8]) -> Counts {
     let mut differ = 0;
     let mut p = 0;
     while p < t.len() {
-        let l = text::line_at(t, p);
+        let l = scan::line_at(t, p);
         let end = l.end;
         let next = l.next;
         if next <= p {

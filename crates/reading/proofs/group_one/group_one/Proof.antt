@@ -1,7 +1,7 @@
 use Rattle.reading.proofs.GroupOne.{grouping}
 use Prim.Native.Nat.{_-_}
 use lib.ListN.{length}
-use Rattle.text.specs.Told.{formOf}
+use Rattle.header.specs.Told.{formOf}
 use Rattle.reading.proofs.GroupOne.{Rest}
 use Rattle.reading.proofs.group_one.group_one.Statement.{statement}
 use Rattle.reading.proofs.group_one.group_one.Tie as tie

@@ -1,7 +1,7 @@
 use Rattle.reading.proofs.GroupTwo.{rounds}
 use Prim.Native.Nat.{_-_}
 use lib.ListN.{length}
-use Rattle.text.specs.Told.{formOf}
+use Rattle.header.specs.Told.{formOf}
 use Rattle.reading.specs.Onward.{Columns}
 use Rattle.reading.proofs.GroupTwo.{Rounds, lending}
 use Rattle.reading.proofs.group_two.rounds.Statement.{statement}

@@ -1,0 +1,25 @@
+use Rattle.joined.proofs.Laws.Joined.{stepping}
+use Rattle.joined.proofs.join_step.Statement.{statement}
+use Rattle.joined.proofs.join_step.Tie as tie
+
+mul-result : tie.Need-mul-result
+mul-result c = search stepping
+
+add-result : tie.Need-add-result
+add-result c = search stepping
+
+mul-result-2 : tie.Need-mul-result-2
+mul-result-2 c = search stepping
+
+add-result-2 : tie.Need-add-result-2
+add-result-2 c = search stepping
+
+returns : tie.Need-returns
+returns c = search stepping
+
+returns-2 : tie.Need-returns-2
+returns-2 c = search stepping
+
+pub join-step-spec : {M : Type 1} → statement M
+join-step-spec =
+    tie.close (tie.spec mul-result add-result mul-result-2 add-result-2 returns returns-2)

@@ -1,3 +1,0 @@
-pub mod Told
-pub mod Pairs
-pub mod Usual

@@ -1,0 +1,7 @@
+-- What the proofs share, by module of the code.
+-- Assumes nothing.
+pub mod Numbers
+pub mod Short
+pub mod Many
+pub mod Lists
+pub mod Begun
