@@ -156,5 +156,11 @@ pub extern "C" fn probe_relocation(
 ) -> Row
     ensures { λ r. ⌜ RelocationRow (relocationLine (formOf (formFrom radix big width)) (now (t .entry)) 0) r (now (modes .entry)) (now (entries .entry)) (now (indexes .entry)) (now (modes .exit)) (now (entries .exit)) (now (indexes .exit)) ⌝ }
 {
-    relocation_row(pair_line::parse_reloc_line(t, form_from(radix, big, width), modes, entries, indexes))
+    relocation_row(pair_line::parse_reloc_line(
+        t,
+        form_from(radix, big, width),
+        modes,
+        entries,
+        indexes,
+    ))
 }

@@ -5,10 +5,10 @@ ghost use Rattle.header.specs.Told.{moreOf};
 ghost use Rattle.reading.specs.Onward.{endingOf, afterOf, steppedOf, standingIn, overOf, placedOf, planOf, turnOf};
 use crate::pair::Body;
 use crate::pair::PairStep;
-use homes::Home;
-use place::Line;
 use header::Form;
 use header::Width;
+use homes::Home;
+use place::Line;
 
 // How placing stands: so many fixup rows are made; or a refusal is kept, to be given if no 7 or 8 follows.
 pub(crate) enum Standing {

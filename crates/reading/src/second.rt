@@ -11,8 +11,8 @@ use crate::plan::Going;
 use crate::plan::Standing;
 use crate::plan::Two;
 use crate::plan::ending;
-use homes::Home;
 use header::Form;
+use homes::Home;
 
 // Group two before its first pair, over so many positions. The home is that of the index behind the last area, which is none.
 fn going_at(found: Found, positions: usize, on: bool, standing: Standing) -> Going

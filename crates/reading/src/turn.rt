@@ -15,11 +15,11 @@ use crate::plan::after;
 use crate::plan::plan_of;
 use crate::plan::standing_in;
 use crate::plan::turn_of;
+use header::Form;
 use homes::Home;
 use place::Filled;
 use place::Line;
 use place::Placed;
-use header::Form;
 
 // How placing stands after a pair.
 fn standing_of(r: Placed) -> Standing
