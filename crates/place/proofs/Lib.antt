@@ -12,6 +12,5 @@ pub mod PlainLaws
 pub mod SiteLaws
 pub mod PairLaws
 pub mod PlainPairLaws
-pub mod GroupLaws
 pub mod Use
 pub mod Unique

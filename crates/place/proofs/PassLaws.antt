@@ -24,7 +24,7 @@ use Rattle.place.specs.Columns.{fragmentsIn}
 use Rattle.place.specs.Named.{Named}
 use Rattle.place.specs.Check.{countOne, countTo, countsAt, countWalk, countLine, Passes}
 use Rattle.place.specs.Walk.{Ready, madeAt, siteOf, fixupsWalk, lineAt, told, writes, Made, Settled}
-use Rattle.place.proofs.RowLaws.{count-rows}
+use Rattle.grouped.proofs.Rows.{count-rows}
 use Rattle.place.proofs.WalkLaws.{at-refers, stopped}
 
 -- how many fixups an outcome has

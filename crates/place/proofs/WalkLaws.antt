@@ -37,7 +37,8 @@ use Rattle.place.specs.Next.{Clear}
 use Rattle.place.specs.Walk.{Ready, siteOf, fixupsWalk, fixup, entryAt, lineAt, told, Within, OneRow, Added, Made}
 use Rattle.place.proofs.NamedLaws.{named-at}
 use Rattle.place.proofs.NextLaws.{none-here, none-left}
-use Rattle.place.proofs.RowLaws.{count-rows, row-made, row-rest}
+use Rattle.grouped.proofs.Rows.{count-rows}
+use Rattle.place.proofs.RowLaws.{row-made, row-rest}
 
 -- ------------------------------------------------------------------ one row
 

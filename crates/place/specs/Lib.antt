@@ -9,4 +9,3 @@ pub mod Walk
 pub mod Image
 pub mod Site
 pub mod Pair
-pub mod Group

@@ -1,6 +1,5 @@
-// One T and R pair placed in its area's image: its work line, its fixups and its bytes; and fixup rows grouped by area.
+// One T and R pair placed in its area's image: its work line, its fixups and its bytes.
 mod check;
-mod group;
 mod image;
 mod named;
 mod next;
@@ -14,8 +13,6 @@ mod sure;
 mod walk;
 mod work_line;
 
-pub use group::Grouped;
-pub use group::by_area;
 pub use pair::Filled;
 pub use pair::Line;
 pub use pair::Placed;

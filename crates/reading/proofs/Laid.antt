@@ -22,10 +22,10 @@ use Rattle.format.specs.Reading as paper
 use Rattle.format.specs.Held.{Held}
 use Rattle.laws.specs.Places.{recordsAt, pairsAt}
 use Rattle.laws.specs.Rows.{from, areasIn, tablesIn, fixupRow, fixupsIn, stateOf}
-use Rattle.place.specs.Group.{areasFor, roomFor, Regrouped}
+use Rattle.grouped.specs.Group.{areasFor, roomFor, Regrouped}
 use Rattle.homes.specs.Home.{noHome, homeAt}
 use Rattle.homes.proofs.Laws.{home-past}
-use Rattle.place.specs.declared.group.Grouped as place
+use Rattle.grouped.specs.declared.Grouped as place
 use Rattle.text.proofs.Laws.Tests.{was-no, was-yes}
 use Rattle.reading.specs.Answer.{toldCounts, held}
 use Rattle.reading.specs.WayIn.{Rooms}

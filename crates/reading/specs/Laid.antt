@@ -19,7 +19,7 @@ use Rattle.format.specs.Reading as paper
 use Rattle.format.specs.Held.{Held}
 use Rattle.laws.specs.Places.{pairsAt, recordsAt}
 use Rattle.laws.specs.Rows.{areasIn, tablesIn, fixupsIn}
-use Rattle.place.specs.Group.{areasFor}
+use Rattle.grouped.specs.Group.{areasFor}
 use Rattle.homes.specs.Home.{noHome}
 use Rattle.reading.specs.Answer.{told, toldCounts}
 use Rattle.reading.specs.GroupOne.{Hold}

@@ -5,7 +5,7 @@ ghost use lib.ListN.{length, take};
 ghost use lib.Seq.{sets};
 ghost use Rattle.format.specs.Lists.{over};
 ghost use Rattle.laws.specs.Rows.{fixupsIn};
-ghost use Rattle.place.specs.Group.{areasFor};
+ghost use Rattle.grouped.specs.Group.{areasFor};
 ghost use Rattle.reading.specs.Laid.{TablesOut, ImagesOut};
 use crate::Counts;
 
@@ -32,7 +32,7 @@ fn copy_fixups(dst: &mut [u32], rows: &[u32; 9216], k: usize, kept: usize)
     requires { ⌜ (9 * k ≤ length (now rows)) × (9 * k ≤ length (now dst)) × (kept ≤ 64) ⌝ }
     ensures { λ _. ⌜ now (dst .exit) ≡ over (areasFor kept 0 (fixupsIn (now (rows .entry)) k)) (now (dst .entry)) ⌝ }
 {
-    place::by_area(rows, k, kept as u32, dst);
+    grouped::by_area(rows, k, kept as u32, dst);
 }
 
 // The rows of areas and symbols.

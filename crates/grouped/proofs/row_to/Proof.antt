@@ -1,6 +1,6 @@
-use Rattle.place.proofs.GroupLaws.{row}
-use Rattle.place.proofs.group.row_to.Statement.{statement}
-use Rattle.place.proofs.group.row_to.Tie as tie
+use Rattle.grouped.proofs.Laws.{row}
+use Rattle.grouped.proofs.row_to.Statement.{statement}
+use Rattle.grouped.proofs.row_to.Tie as tie
 
 mul-s : tie.Need-mul-s
 mul-s c = search row

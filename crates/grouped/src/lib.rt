@@ -6,7 +6,7 @@ ghost use Prim.Native.Nat.{_≤_, _+_, _*_};
 ghost use lib.ListN.{length, getD};
 ghost use Rattle.format.specs.Lists.{over};
 ghost use Rattle.laws.specs.Rows.{fixupRow, fixupsIn};
-ghost use Rattle.place.specs.Group.{rowFor, areaFor, areasFor, Stored, Regrouped};
+ghost use Rattle.grouped.specs.Group.{rowFor, areaFor, areasFor, Stored, Regrouped};
 
 // How many numbers were laid over the buffer, or that one of the two buffers has no room for the rows.
 pub enum Grouped {

@@ -1,8 +1,8 @@
-use Rattle.place.proofs.GroupLaws.{grouping}
-use Rattle.place.proofs.GroupLaws.{Grouping}
+use Rattle.grouped.proofs.Laws.{grouping}
+use Rattle.grouped.proofs.Laws.{Grouping}
 use Prim.Native.Nat.{_-_}
-use Rattle.place.proofs.group.area_rows.Statement.{statement}
-use Rattle.place.proofs.group.area_rows.Tie as tie
+use Rattle.grouped.proofs.area_rows.Statement.{statement}
+use Rattle.grouped.proofs.area_rows.Tie as tie
 
 abbrev Inv-loop : tie.InvT-loop
 Inv-loop rows k id out₀ p q₀ i₀ out q i = Grouping rows k id p out₀ out q i

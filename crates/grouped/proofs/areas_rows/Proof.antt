@@ -1,8 +1,8 @@
-use Rattle.place.proofs.GroupLaws.{ordering}
-use Rattle.place.proofs.GroupLaws.{Ordering}
+use Rattle.grouped.proofs.Laws.{ordering}
+use Rattle.grouped.proofs.Laws.{Ordering}
 use Prim.Native.Nat.{_-_}
-use Rattle.place.proofs.group.areas_rows.Statement.{statement}
-use Rattle.place.proofs.group.areas_rows.Tie as tie
+use Rattle.grouped.proofs.areas_rows.Statement.{statement}
+use Rattle.grouped.proofs.areas_rows.Tie as tie
 
 abbrev Inv-loop : tie.InvT-loop
 Inv-loop rows k n out₀ p₀ id₀ out p id = Ordering rows k n out₀ out p id

@@ -12,8 +12,8 @@ use Rattle.format.specs.Lists.{pick, flat, over}
 use Rattle.format.specs.Fixups.{Fixup, ofArea, byArea}
 use Rattle.format.specs.Rows.{fixupNumbers}
 use Rattle.laws.specs.Rows.{fixupsIn}
-use Rattle.place.specs.declared.group.Grouped.{Grouped}
-use Rattle.place.specs.declared.group.Grouped.the-variants.{Numbers, Misfit}
+use Rattle.grouped.specs.declared.Grouped.{Grouped}
+use Rattle.grouped.specs.declared.Grouped.the-variants.{Numbers, Misfit}
 
 -- one row, if it lies in an area
 unfoldable pub rowFor : ℕ → Fixup → List ℕ

@@ -21,10 +21,10 @@ use Rattle.laws.specs.Rows.{from, fixupFrom, fixupRow, fixupsIn}
 use Rattle.laws.proofs.Parts.{part-end}
 use Rattle.laws.proofs.Room.{grouped-le, flat-length}
 use Rattle.cells.proofs.Laws.{sets-append}
-use Rattle.place.specs.declared.group.Grouped.{Grouped}
-use Rattle.place.specs.declared.group.Grouped.the-variants.{Numbers, Misfit}
-use Rattle.place.specs.Group.{rowFor, areaFor, areasFor, Stored, roomFor, Regrouped}
-use Rattle.place.proofs.RowLaws.{length-from, nine-long, nine-is}
+use Rattle.grouped.specs.declared.Grouped.{Grouped}
+use Rattle.grouped.specs.declared.Grouped.the-variants.{Numbers, Misfit}
+use Rattle.grouped.specs.Group.{rowFor, areaFor, areasFor, Stored, roomFor, Regrouped}
+use Rattle.grouped.proofs.Rows.{length-from, nine-long, nine-is}
 
 -- ------------------------------------------------------------------ one row
 

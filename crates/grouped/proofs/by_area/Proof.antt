@@ -1,6 +1,6 @@
-use Rattle.place.proofs.GroupLaws.{groups}
-use Rattle.place.proofs.group.by_area.Statement.{statement}
-use Rattle.place.proofs.group.by_area.Tie as tie
+use Rattle.grouped.proofs.Laws.{groups}
+use Rattle.grouped.proofs.by_area.Statement.{statement}
+use Rattle.grouped.proofs.by_area.Tie as tie
 
 returns : tie.Need-returns
 returns c = search groups
