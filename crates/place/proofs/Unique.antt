@@ -13,15 +13,15 @@ use Rattle.format.specs.Outcome.{Outcome, fine}
 use Rattle.format.specs.Placing.{State}
 use Rattle.laws.specs.Rows.{fixupsIn, stateOf}
 use Rattle.place.specs.Pair.{PairPlaced, told, changes, fits}
-use Rattle.place.specs.Site.{lineFits, filledFits}
+use Rattle.sites.specs.Site.{lineFits, filledFits}
 use Rattle.homes.specs.declared.Home.{Home}
-use Rattle.place.specs.declared.pair.Line.{Line}
-use Rattle.place.specs.declared.pair.Filled.{Filled}
+use Rattle.sites.specs.declared.Line.{Line}
+use Rattle.sites.specs.declared.Filled.{Filled}
 use Rattle.place.specs.declared.pair.Placed.{Placed}
 use Rattle.place.specs.declared.pair.Placed.the-variants.{Done, Stopped, Misfit}
-use Rattle.place.proofs.NamedLaws.{both-true}
+use Rattle.cells.proofs.Both.{both-true}
 use Rattle.grouped.proofs.Rows.{rows-fixed}
-use Rattle.place.proofs.PairLaws.{counted}
+use Rattle.sites.proofs.Fitting.{counted}
 
 -- what two answers and the buffers behind them have in common
 pub record Same (r : Placed) (vs ms rows : List ℕ) (q : Placed) (vs′ ms′ rows′ : List ℕ) : Type 0 where

@@ -28,14 +28,14 @@ use Rattle.text.specs.declared.Form as text
 use Rattle.text.specs.declared.Width.{Width}
 use Rattle.text.specs.declared.Width.the-variants as wide
 use Rattle.line.specs.Pairs.{Rows}
-use Rattle.place.specs.Columns.{fragmentAt, fragmentsIn}
+use Rattle.sites.specs.Columns.{fragmentAt, fragmentsIn}
 use Rattle.place.specs.Pair.{contentOf, pairOf, pairIn, fits as fitsIn, told, usedNow, PairPlaced}
 use Rattle.homes.specs.Home.{homeAt}
 use Rattle.homes.specs.declared.Home.{Home}
 use Rattle.homes.proofs.Use.{home-own}
 use Rattle.place.proofs.Use.{Fit, fits-when, placed-when}
-use Rattle.place.specs.declared.pair.Filled.{Filled}
-use Rattle.place.specs.declared.pair.Line.{Line}
+use Rattle.sites.specs.declared.Filled.{Filled}
+use Rattle.sites.specs.declared.Line.{Line}
 use Rattle.place.specs.declared.pair.Placed as place
 use Rattle.place.specs.declared.pair.Placed.the-variants.{Done as Through, Stopped, Misfit}
 use Rattle.reading.specs.PairLines.{AsLong, PlacedIs, BodyIs, stepTo, StepOf, StepSays, PairStepIs}

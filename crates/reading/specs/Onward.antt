@@ -21,8 +21,8 @@ use Rattle.text.specs.declared.Form as text
 use Rattle.homes.specs.Home.{homeAt}
 use Rattle.place.specs.Pair.{pairOf}
 use Rattle.homes.specs.declared.Home.{Home}
-use Rattle.place.specs.declared.pair.Filled.{Filled}
-use Rattle.place.specs.declared.pair.Line.{Line}
+use Rattle.sites.specs.declared.Filled.{Filled}
+use Rattle.sites.specs.declared.Line.{Line}
 use Rattle.place.specs.declared.pair.Placed as place
 use Rattle.place.specs.declared.pair.Placed.the-variants.{Done as Through, Stopped, Misfit}
 use Rattle.reading.specs.declared.pair.Body.the-variants.{Skipped, Placed}

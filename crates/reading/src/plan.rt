@@ -6,7 +6,7 @@ ghost use Rattle.reading.specs.Onward.{endingOf, afterOf, steppedOf, sta
 use crate::pair::Body;
 use crate::pair::PairStep;
 use homes::Home;
-use place::Line;
+use sites::Line;
 use text::Form;
 use text::Width;
 

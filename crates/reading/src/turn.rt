@@ -16,9 +16,9 @@ use crate::plan::plan_of;
 use crate::plan::standing_in;
 use crate::plan::turn_of;
 use homes::Home;
-use place::Filled;
-use place::Line;
 use place::Placed;
+use sites::Filled;
+use sites::Line;
 use text::Form;
 
 // How placing stands after a pair.
