@@ -2,22 +2,27 @@
 -- Assumes nothing.
 use Prim.Native.Nat.{ℕ, _+_, _≤_}
 use mathlib.Core.Path.{_≡_, refl, sym, ap}
+use mathlib.Core.Bool.{Bool, true, _&&_}
 use mathlib.Core.List.{List, []}
 use native.Mathlib.Omega.{arith}
+use lib.Dec.{leb}
 use lib.ListN.{length, take, replicate}
 use borrow.Author.Needs.{needs}
+use Rattle.format.specs.Outcome.{fine}
 use Rattle.format.specs.WorkLine.{padded}
 use Rattle.laws.specs.Rows.{from, fixupsIn, stateOf}
-use Rattle.place.specs.declared.site.Site.{Site}
-use Rattle.place.specs.declared.walk.Fixed.the-variants.{Rows}
+use Rattle.sites.specs.declared.Site.{Site}
+use Rattle.sites.specs.Columns.{fragmentAt, fragmentsIn}
+use Rattle.sites.specs.Site.{isReady, madeAt}
+use Rattle.images.specs.Image.{plainValues, plainMasks, Plain, Written}
+use Rattle.images.proofs.Use.{plain-when}
+use Rattle.fixups.specs.Walk.{siteOf, lineAt}
+use Rattle.fixups.proofs.NextLaws.{none-left}
+use Rattle.place.specs.declared.pair.Placed.the-variants.{Done}
 use Rattle.place.specs.declared.work_line.Worked.the-variants.{Numbers}
-use Rattle.place.specs.Columns.{fragmentAt, fragmentsIn}
 use Rattle.place.specs.Work.{lineOf, turns, allTurns, Whole}
-use Rattle.place.specs.Walk.{Ready, madeAt, siteOf, lineAt, Settled}
-use Rattle.place.specs.Image.{Plain}
-use Rattle.place.specs.Pair.{pairAt, Prepared, Placeable, Processed}
-use Rattle.place.proofs.NextLaws.{none-left}
-use Rattle.place.proofs.PairLaws.{prepared, pair-walked, pair-processed}
+use Rattle.place.specs.Pair.{sitePair, Prepared, Placeable, PairPlaced}
+use Rattle.place.proofs.WorkedLaws.{prepared, walked, pair-processed}
 
 module _ {table : List ℕ} (s : Site) (bs ms es xs areas symbols vs masks rs : List ℕ) (p : Placeable table s bs ms rs) (h : s .line .fragments ≡ 0) where
   -- values, masks and kept flags before any fragment
@@ -41,27 +46,20 @@ module _ {table : List ℕ} (s : Site) (bs ms es xs areas symbols vs masks rs : 
   unfolding wv wm wk
   fresh-line = prepared s bs ms es (p .lent) refl refl refl [] no-turn (p .ready .line)
 
-  no-rows : Settled (lineAt ms es xs areas symbols [] (madeAt s 0) wk (fixupsIn rs (s .filled .fixups))) (s .filled .fixups) rs (Rows (s .filled .fixups)) rs
+  no-rows : (place : ℕ) → fine (fixupsIn rs (s .filled .fixups)) ≡ lineAt ms es xs areas symbols [] (madeAt s 0) wk (fixupsIn rs (s .filled .fixups)) place
   unfolding lineAt
-  no-rows = record {
-    made = record {
-      says = λ place. sym
-          (none-left (siteOf areas symbols [] (madeAt s 0) place) (s .size) ms es xs (s .line .fragments) wk (s .line .width + s .line .bytes) 0 (s .line .address) (fixupsIn rs (s .filled .fixups))
-          {r = s .line .width + s .line .bytes} (record { above = omega arith; none = λ i g q v. absurd (omega arith) }) (omega arith));
-      within = record { room = p .ready .fixups; grew = omega arith; rest = refl };
-    };
-    same = λ e. let z : _≡_ {A = ℕ} 0 1 = cc in absurd (omega arith);
-  }
+  no-rows place = sym
+      (none-left (siteOf areas symbols [] (madeAt s 0) place) (s .size) ms es xs (s .line .fragments) wk (s .line .width + s .line .bytes) 0 (s .line .address) (fixupsIn rs (s .filled .fixups))
+      {r = s .line .width + s .line .bytes} (record { above = omega arith; none = λ i g q v. absurd (omega arith) }) (omega arith))
 
-  pub pair-plain : {vs′ masks′ : List ℕ} → Plain s bs vs masks vs′ masks′
-      → Processed (pairAt s bs ms es xs areas symbols (stateOf vs masks rs (s .filled .fixups))) vs masks rs (Rows (s .filled .fixups)) vs′ masks′ rs
-  unfolding wv wm wk
-  pair-plain i = pair-processed s bs ms es xs areas symbols vs masks rs fresh-line (pair-walked s ms es xs areas symbols [] wv wm wk vs masks rs refl no-rows refl (i .imaged))
+  laid : {vs′ masks′ : List ℕ} → Plain s bs vs masks vs′ masks′ → PairPlaced true (sitePair s bs ms es xs areas symbols (stateOf vs masks rs (s .filled .fixups))) vs masks rs (Done (s .filled .fixups)) vs′ masks′ rs
+  unfolding wv wm wk plainValues plainMasks
+  laid i =
+      pair-processed s bs ms es xs areas symbols vs masks rs fresh-line
+      (walked s ms es xs areas symbols [] wv wm wk vs masks rs (p .ready) refl no-rows (p .ready .fixups) refl (record { values = i .values; masks = i .masks }))
 
-pub pair-ready : {table : List ℕ} {s : Site} {bs ms rs : List ℕ} → Placeable table s bs ms rs → Ready s
-pair-ready p = p .ready
+  pub pair-plain : {vs′ masks′ : List ℕ} {t : Bool} → Written (isReady s && leb (s .line .bytes) (length bs)) (plainValues s bs vs) (plainMasks s masks) vs masks t vs′ masks′
+      → PairPlaced true (sitePair s bs ms es xs areas symbols (stateOf vs masks rs (s .filled .fixups))) vs masks rs (Done (s .filled .fixups)) vs′ masks′ rs
+  pair-plain w = laid (plain-when (p .ready) bs (p .lent) w)
 
-pub pair-lent : {table : List ℕ} {s : Site} {bs ms rs : List ℕ} → Placeable table s bs ms rs → s .line .bytes ≤ length bs
-pair-lent p = p .lent
-
-pub ruleset plainly = (needs, pair-plain, pair-ready, pair-lent)
+pub ruleset plainly = (needs, pair-plain)

@@ -8,67 +8,28 @@ use mathlib.Core.Option.{some}
 use native.Mathlib.Omega.{arith}
 use mir.Val.{Fits}
 use mir.Syntax.{w64}
-use lib.Dec.{leb}
+use lib.Dec.{eqb, leb}
 use borrow.Author.Needs.{needs}
-use borrow.Author.Tests.{le-leb, lt-leb, not-true, not-false}
+use borrow.Author.Tests.{eq-eqb, ne-eqb, le-leb, lt-leb, not-true, not-false}
 use Rattle.format.specs.Tables.{lastIndex}
 use Rattle.homes.specs.declared.Home.{Home}
-use Rattle.place.specs.declared.pair.Line.{Line}
-use Rattle.place.specs.declared.pair.Filled.{Filled}
-use Rattle.place.specs.declared.site.Site.{Site}
+use Rattle.sites.specs.declared.Line.{Line}
+use Rattle.sites.specs.declared.Filled.{Filled}
+use Rattle.sites.specs.declared.Site.{Site}
 use Rattle.place.specs.declared.site.Found.the-variants.{Unkept, Misfit, At}
-use Rattle.place.specs.Named.{names}
-use Rattle.place.specs.Site.{lineFits, filledFits, imageFits, siteAt, found}
+use Rattle.classes.specs.Named.{names}
+use Rattle.sites.specs.Site.{lineFits, filledFits}
+use Rattle.place.specs.Site.{imageFits, siteAt, found}
 
--- `line_fits`
-module _ (l : Line) (lent : ℕ) where
-  pub wide-address : 4 < l .width → false ≡ lineFits l lent
-  unfolding lineFits
-  wide-address h = rw (lt-leb (l .width) 4 h)
+-- `home_fits`
+module _ (h : Home) (l : Line) (n : Filled) (lent room : ℕ) where
+  pub home-other : (h .area ≡ l .area → ⊥) → false ≡ (eqb (h .area) (l .area) && (lineFits l lent && filledFits n room))
+  home-other k = rw (ne-eqb (h .area) (l .area) k)
 
-  module _ (a : l .width ≤ 4) where
-    pub long-content : 256 < l .bytes → false ≡ lineFits l lent
-    unfolding lineFits
-    long-content h = rw (le-leb (l .width) 4 a, lt-leb (l .bytes) 256 h)
+  pub home-same : h .area ≡ l .area → {b : Bool} → b ≡ (lineFits l lent && filledFits n room) → b ≡ (eqb (h .area) (l .area) && (lineFits l lent && filledFits n room))
+  home-same k e = rw (eq-eqb (h .area) (l .area) k) e
 
-    module _ (b : l .bytes ≤ 256) where
-      pub unlent-content : lent < l .bytes → false ≡ lineFits l lent
-      unfolding lineFits
-      unlent-content h = rw (le-leb (l .width) 4 a, le-leb (l .bytes) 256 b, lt-leb (l .bytes) lent h)
-
-      pub line-last : l .bytes ≤ lent → leb (l .fragments) 64 ≡ lineFits l lent
-      unfolding lineFits
-      line-last c = rw (le-leb (l .width) 4 a, le-leb (l .bytes) 256 b, le-leb (l .bytes) lent c)
-
--- `filled_fits`
-module _ (n : Filled) (room : ℕ) where
-  pub many-areas : 64 < n .areas → false ≡ filledFits n room
-  unfolding filledFits
-  many-areas h = rw (lt-leb (n .areas) 64 h)
-
-  module _ (a : n .areas ≤ 64) where
-    pub many-symbols : 1024 < n .symbols → false ≡ filledFits n room
-    unfolding filledFits
-    many-symbols h = rw (le-leb (n .areas) 64 a, lt-leb (n .symbols) 1024 h)
-
-    module _ (b : n .symbols ≤ 1024) where
-      pub many-fixups : 1024 < n .fixups → false ≡ filledFits n room
-      unfolding filledFits
-      many-fixups h = rw (le-leb (n .areas) 64 a, le-leb (n .symbols) 1024 b, lt-leb (n .fixups) 1024 h)
-
-      pub filled-last : n .fixups ≤ 1024 → leb 9216 room ≡ filledFits n room
-      unfolding filledFits
-      filled-last c = rw (le-leb (n .areas) 64 a, le-leb (n .symbols) 1024 b, le-leb (n .fixups) 1024 c)
-
--- `counts_fit`
-module _ (l : Line) (n : Filled) (lent room : ℕ) {a : Bool} (ea : a ≡ lineFits l lent) where
-  pub counts-first : a ≡ false → false ≡ (lineFits l lent && filledFits n room)
-  counts-first h = rw (← ea, h)
-
-  pub counts-both : a ≡ true → {b : Bool} → b ≡ filledFits n room → b ≡ (lineFits l lent && filledFits n room)
-  counts-both h e = rw (← ea, h) e
-
-pub ruleset fitting = (needs, wide-address, long-content, unlent-content, line-last, many-areas, many-symbols, many-fixups, filled-last, counts-first, counts-both)
+pub ruleset homing = (needs, home-other, home-same)
 
 -- `image_fits`
 module _ (t ms : List ℕ) (s : Site) where

@@ -1,4 +1,4 @@
--- No second answer fits a contract of placing: neither another answer nor another byte or number in a lent buffer.
+-- No second answer fits the contract of placing: neither another answer nor another byte or number in a lent buffer.
 -- Assumes nothing.
 use Prim.Native.Nat.{ℕ, _*_, _≤_}
 use mathlib.Core.Path.{_≡_, refl, ap, sym, _∙_}
@@ -8,33 +8,20 @@ use mathlib.Core.Option.{none, some}
 use native.Mathlib.Omega.{arith}
 use lib.Dec.{eqb}
 use lib.ListN.{length, take, drop, take-append-drop}
-use Rattle.format.specs.Lists.{pick, flat}
+use Rattle.format.specs.Lists.{pick}
 use Rattle.format.specs.Outcome.{Outcome, fine}
 use Rattle.format.specs.Placing.{State}
-use Rattle.format.specs.Fixups.{Fixup}
-use Rattle.format.specs.Rows.{fixupNumbers}
 use Rattle.laws.specs.Rows.{fixupsIn, stateOf}
 use Rattle.place.specs.Pair.{PairPlaced, told, changes, fits}
-use Rattle.place.specs.Site.{lineFits, filledFits}
+use Rattle.sites.specs.Site.{lineFits, filledFits}
 use Rattle.homes.specs.declared.Home.{Home}
-use Rattle.place.specs.declared.pair.Line.{Line}
-use Rattle.place.specs.declared.pair.Filled.{Filled}
-use Rattle.place.specs.Group.{Regrouped}
-use Rattle.place.specs.Group as group
+use Rattle.sites.specs.declared.Line.{Line}
+use Rattle.sites.specs.declared.Filled.{Filled}
 use Rattle.place.specs.declared.pair.Placed.{Placed}
 use Rattle.place.specs.declared.pair.Placed.the-variants.{Done, Stopped, Misfit}
-use Rattle.place.specs.declared.group.Grouped.{Grouped}
-use Rattle.place.specs.declared.group.Grouped.the-variants as grouped
-use Rattle.place.proofs.NamedLaws.{both-true}
-use Rattle.place.proofs.RowLaws.{count-rows, rows-numbers}
-use Rattle.place.proofs.PairLaws.{counted}
-
--- the decoded rows fix every number of as many rows
-pub rows-fixed : (xs ys : List ℕ) (j k : ℕ) → 9 * j ≤ length xs → 9 * k ≤ length ys → fixupsIn xs j ≡ fixupsIn ys k → (j ≡ k) × (take (9 * j) xs ≡ take (9 * k) ys)
-rows-fixed xs ys j k p q e = (
-  sym (count-rows xs j) ∙ (ap (λ (l : List Fixup). length l) e ∙ count-rows ys k),
-  sym (rows-numbers xs j p) ∙ (ap (λ (l : List Fixup). flat fixupNumbers l) e ∙ rows-numbers ys k q),
-)
+use Rattle.cells.proofs.Both.{both-true}
+use Rattle.grouped.proofs.Rows.{rows-fixed}
+use Rattle.sites.proofs.Fitting.{counted}
 
 -- what two answers and the buffers behind them have in common
 pub record Same (r : Placed) (vs ms rows : List ℕ) (q : Placed) (vs′ ms′ rows′ : List ℕ) : Type 0 where
@@ -131,13 +118,3 @@ pub one-pair : (table : List ℕ) (l : Line) (h : Home) (bs ms : List ℕ) (n : 
     → Same r vs₁ ms₁ rows₁ q vs₂ ms₂ rows₂
 one-pair table l h bs ms n o vs masks rows r q vs₁ ms₁ rows₁ vs₂ ms₂ rows₂ l₁ l₂ a b =
     placed-once (fits table l h bs ms n rows) o vs masks rows (fits-room table l h bs ms n rows) vs₁ ms₁ rows₁ vs₂ ms₂ rows₂ l₁ l₂ r q a b
-
--- `by_area`
-pub one-grouping : (k n : ℕ) (rows out : List ℕ) (r q : Grouped) (out₁ out₂ : List ℕ) → Regrouped k n rows out r out₁ → Regrouped k n rows out q out₂ → (r ≡ q) × (out₁ ≡ out₂)
-one-grouping k n rows out r q out₁ out₂ a b = (injective r q (a .says ∙ sym (b .says)), a .stored ∙ sym (b .stored))
-  where
-    injective : (x y : Grouped) → group.told x ≡ group.told y → x ≡ y
-    injective (grouped.Numbers m) (grouped.Numbers p) e = let h : m ≡ p = cc in rw h
-    injective (grouped.Numbers m) grouped.Misfit e = absurd (let z : _≡_ {A = ℕ} 0 1 = cc in omega arith)
-    injective grouped.Misfit (grouped.Numbers p) e = absurd (let z : _≡_ {A = ℕ} 0 1 = cc in omega arith)
-    injective grouped.Misfit grouped.Misfit e = refl

@@ -14,13 +14,14 @@ use Rattle.format.specs.Placing.{State, extent, placeLine, placePair}
 use Rattle.laws.specs.Rows.{areasIn, tablesIn}
 use Rattle.mode.specs.Class.{classTable}
 use Rattle.homes.specs.declared.Home.{Home}
-use Rattle.place.specs.declared.pair.Line.{Line}
-use Rattle.place.specs.declared.pair.Filled.{Filled}
+use Rattle.sites.specs.declared.Line.{Line}
+use Rattle.sites.specs.declared.Filled.{Filled}
 use Rattle.homes.specs.Home.{homeBy, homeAt}
 use Rattle.homes.proofs.Use.{home-own, by-rank}
-use Rattle.place.specs.Site.{lineFits, filledFits, imageFits}
+use Rattle.sites.specs.Site.{lineFits, filledFits}
+use Rattle.place.specs.Site.{imageFits}
 use Rattle.place.specs.Pair.{pairOf, pairAt, pairIn, keptFits, fits}
-use Rattle.place.proofs.NamedLaws.{table-names}
+use Rattle.classes.proofs.Named.{table-names}
 
 -- what a reading knows when it places a pair: 5 to 9 are ruled out, and the lent rows have room
 pub record Fit (table : List ℕ) (l : Line) (h : Home) (bs areas : List ℕ) (n : Filled) (rows : List ℕ) : Type 0 where

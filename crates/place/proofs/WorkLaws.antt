@@ -15,7 +15,7 @@ use borrow.Author.Tests.{lt-ltb, le-ltb, le-leb, lt-leb}
 use borrow.Rule.Slice.PartMut.{putMid}
 use mir.Val.{Fits}
 use mir.Syntax.{w64}
-use Rattle.format.specs.Mode.{Class, Addr19, Addr11, Addr24, Addr16, Byte, Other, classOf, bit, touched, touchedOf}
+use Rattle.format.specs.Mode.{Class, Addr19, Addr11, Addr24, Addr16, Byte, Other, classNumberOf, classOf, bit, touched, touchedOf}
 use Rattle.format.specs.ModeStep.{numberBy, valuesBy, masksBy, keepsBy, stepNumber, stepValues, stepMasks, stepKeeps}
 use Rattle.format.specs.Outcome.{andThen}
 use Rattle.format.specs.WorkLine.{padded, beyond, stepAt, partly}
@@ -25,13 +25,25 @@ use Rattle.laws.proofs.Parts.{part-end, put-end}
 use Rattle.mode.specs.declared.step.Step.{Step}
 use Rattle.mode.specs.declared.step.Step.the-variants.{Number, Short}
 use Rattle.mode.specs.Step as modes
-use Rattle.place.specs.declared.pair.Line.{Line}
+use Rattle.mode.specs.Class.{classNamed}
+use Rattle.sites.specs.declared.Line.{Line}
 use Rattle.place.specs.declared.work_line.Worked.{Worked}
 use Rattle.place.specs.declared.work_line.Worked.the-variants.{Beyond, Numbers}
-use Rattle.place.specs.Columns.{fragmentAt, fragmentsIn}
+use Rattle.sites.specs.Columns.{fragmentAt, fragmentsIn}
 use Rattle.place.specs.Work as work
 use Rattle.place.specs.Work.{lineOf, turnOf, turns, allTurns, told, Applied, Turned, Whole}
-use Rattle.place.proofs.NamedLaws.{named-at}
+use Rattle.classes.specs.Named.{NamedAt}
+use Rattle.classes.proofs.Named.{named-at, names-itself}
+use Rattle.sites.specs.Site as site
+
+-- ------------------------------------------------------------------ the class
+
+-- the class that the table has for a mode that it names
+pub class-here : {t ms : List ℕ} {i m : ℕ} {k : Class} → NamedAt t ms i → m ≡ getD ms i 0 → k ≡ classNamed (getD t (m % 2048) 0) → k ≡ classOf (getD ms i 0)
+unfolding classNumberOf
+class-here {ms = ms} {i = i} {m = m} n em ek = rw (← em) (ek ∙ (ap classNamed (rw (← em) at (n .number)) ∙ names-itself (classOf m)))
+
+pub ruleset classing = (needs, class-here)
 
 -- ------------------------------------------------------------------ the content
 
@@ -50,7 +62,7 @@ unfolding padded
 stored a n h d vs z l =
     sets-eq vs d a (rw (z, length-replicate, l) h) ∙ rw (l, z, zeros-take a 260 (omega arith), zeros-drop (a + n) 260)
 
-module _ {l : Line} (s : work.Short l) {d d′ : List ℕ} (z : d ≡ replicate 260 0) where
+module _ {l : Line} (s : site.Short l) {d d′ : List ℕ} (z : d ≡ replicate 260 0) where
   pub laid : (bs : List ℕ) → l .bytes ≤ length bs → d′ ≡ sets d (l .width) (take (l .bytes) bs) → d′ ≡ padded (l .width) (l .bytes) (take (l .bytes) bs)
   laid bs h e = e ∙ stored (l .width) (l .bytes) (omega (arith, s .address, s .content)) d (take (l .bytes) bs) z (length-take-le (l .bytes) bs h)
 
@@ -114,7 +126,7 @@ module _ (l : Line) (ms : List ℕ) (i entry : ℕ) (wv wm wk ns : List ℕ) (m 
   }
 
   module _ (g : entry + n ≤ l .width + l .bytes) where
-    pub has-room : work.Short l → (xs : List ℕ) → 260 ≤ length xs → entry + touchedOf k (eqb (mode / 256 % 2) 1) ≤ length xs
+    pub has-room : site.Short l → (xs : List ℕ) → 260 ≤ length xs → entry + touchedOf k (eqb (mode / 256 % 2) 1) ≤ length xs
     has-room s xs q = omega (arith, s .address, s .content)
 
     module _ {r : Step} {wv′ wm′ wk′ : List ℕ} (p : Applied k (eqb (mode / 256 % 2) 1) (l .big) entry r wv wm wk wv′ wm′ wk′) where
@@ -169,10 +181,10 @@ module _ {l : Line} {ms es : List ℕ} {d : defs.Worked} {long : ℕ} {wv wm wk 
   work-end h = record { says = λ xs place. let z : l .fragments - i ≡ 0 = omega arith in sym (w .rest xs place ∙ rw z); few = omega (arith, w .few, w .within) }
 
   module _ (h : i < l .fragments) where
-    pub work-room : 64 ≤ long → work.Short l → m < length ns
+    pub work-room : 64 ≤ long → site.Short l → m < length ns
     work-room r s = omega (arith, w .kept, w .few, s .fragments)
 
-    pub work-few : work.Short l → m < 64
+    pub work-few : site.Short l → m < 64
     work-few s = omega (arith, w .few, s .fragments)
 
     module _ {wv′ wm′ wk′ ns′ : List ℕ} {r : Worked} (t : Turned l ms es i wv wm wk ns m r wv′ wm′ wk′ ns′) where

@@ -1,12 +1,3 @@
-pub mod Columns
-pub mod Named
 pub mod Work
-pub mod References
-pub mod Check
-pub mod Sure
-pub mod Next
-pub mod Walk
-pub mod Image
 pub mod Site
 pub mod Pair
-pub mod Group

@@ -11,24 +11,21 @@ use Rattle.format.specs.Lists.{pick}
 use Rattle.format.specs.Header.{Form}
 use Rattle.format.specs.Pairs.{Content, placed}
 use Rattle.format.specs.Outcome.{Outcome, fine, refused, andThen}
-use Rattle.format.specs.Tables.{lastIndex}
+use Rattle.format.specs.Tables.{Tables, lastIndex}
 use Rattle.format.specs.Placing.{State, walk, walkBy, placeAt, placePair}
 use Rattle.laws.specs.Rows.{tablesIn, stateOf}
 use Rattle.homes.specs.declared.Home.{Home}
-use Rattle.place.specs.declared.pair.Line.{Line}
-use Rattle.place.specs.declared.pair.Filled.{Filled}
+use Rattle.sites.specs.declared.Line.{Line}
+use Rattle.sites.specs.declared.Filled.{Filled}
 use Rattle.place.specs.declared.pair.Placed.{Placed}
 use Rattle.place.specs.declared.pair.Placed.the-variants.{Done, Stopped, Misfit}
-use Rattle.place.specs.declared.site.Site.{Site}
-use Rattle.place.specs.declared.walk.Fixed.{Fixed}
-use Rattle.place.specs.declared.walk.Fixed.the-variants.{Refused, Rows}
-use Rattle.place.specs.Columns.{fragmentsIn}
-use Rattle.place.specs.Check.{tablesOf, usedBy}
+use Rattle.sites.specs.declared.Site.{Site}
+use Rattle.sites.specs.Columns.{fragmentsIn}
 use Rattle.place.specs.declared.work_line.Worked.{Worked}
-use Rattle.place.specs.Named.{Named}
+use Rattle.classes.specs.Named.{Named}
 use Rattle.place.specs.Work as work
-use Rattle.place.specs.Walk.{Ready, writes}
-use Rattle.place.specs.Site.{lineFits, filledFits, imageFits, siteAt}
+use Rattle.sites.specs.Site.{lineFits, filledFits, Ready}
+use Rattle.place.specs.Site.{imageFits, siteAt}
 
 abbrev pub formOf : ℕ → Line → Form
 formOf radix l = record { radix = radix; big = l .big; addressLength = l .width }
@@ -42,6 +39,10 @@ pairOf l bs ms es xs areas symbols n st radix end =
     placePair (formOf radix l) (tablesIn areas (n .areas) symbols (n .symbols)) st
     (record { place = l .place; end = end; body = placed (contentOf l bs) (record { area = l .area; fragments = fragmentsIn ms es xs (l .fragments) }) })
 
+-- the tables that lent rows hold
+abbrev pub tablesOf : (areas symbols : List ℕ) → Site → Tables
+tablesOf areas symbols s = tablesIn areas (s .filled .areas) symbols (s .filled .symbols)
+
 -- the same for a kept area at its site
 unfoldable pub pairAt : Site → (bs ms es xs areas symbols : List ℕ) → State → (radix place : ℕ) → Outcome State
 pairAt s bs ms es xs areas symbols st radix place =
@@ -52,6 +53,13 @@ unfoldable pub afterWork : Site → Worked → (ms es xs areas symbols ns wv wm 
 afterWork s worked ms es xs areas symbols ns wv wm wk st radix place =
     andThen (work.told place worked wv wm wk ns) (λ d.
     walk (walkBy (tablesOf areas symbols s) place (s .home) (s .start) (s .size) (fragmentsIn ms es xs (s .line .fragments)) d) (s .line .width + s .line .bytes) 0 (s .line .address) st)
+
+-- both at the place of the site's line
+unfoldable pub sitePair : Site → (bs ms es xs areas symbols : List ℕ) → State → (radix end : ℕ) → Outcome State
+sitePair s bs ms es xs areas symbols st radix end = pairAt s bs ms es xs areas symbols st radix (s .line .place)
+
+unfoldable pub workedPair : Site → Worked → (ms es xs areas symbols ns wv wm wk : List ℕ) → State → (radix end : ℕ) → Outcome State
+workedPair s worked ms es xs areas symbols ns wv wm wk st radix end = afterWork s worked ms es xs areas symbols ns wv wm wk st radix (s .line .place)
 
 -- the same for a pair at a home
 abbrev pub pairBy : Line → Filled → (start size : ℕ) (bs ms es xs areas symbols : List ℕ) → State → (radix : ℕ) → Option ℕ → Outcome State
@@ -89,14 +97,6 @@ changes (Done k) = true
 changes (Stopped n p) = false
 changes Misfit = false
 
-abbrev pub ended : ℕ → Fixed → Placed
-ended place (Rows k) = Done k
-ended place (Refused n) = Stopped n place
-
-abbrev pub toldState : (place : ℕ) → Fixed → (vs ms rows : List ℕ) → Outcome State
-toldState place (Refused n) vs ms rows = refused n place
-toldState place (Rows k) vs ms rows = fine (stateOf vs ms rows k)
-
 -- a work line with the pair's fragments worked in
 pub record Prepared (s : Site) (bs ms es : List ℕ) (r : Worked) (ns wv wm wk : List ℕ) : Type 0 where
   pub turned : (xs areas symbols : List ℕ) (st : State) (radix place : ℕ) → pairAt s bs ms es xs areas symbols st radix place ≡ afterWork s r ms es xs areas symbols ns wv wm wk st radix place
@@ -108,13 +108,6 @@ pub record Placeable (table : List ℕ) (s : Site) (bs ms rows : List ℕ) : Typ
   pub named : Named table ms (s .line .fragments)
   pub lent : s .line .bytes ≤ length bs
   pub room : 9216 ≤ length rows
-
--- a pair of a kept area
-pub record Processed (o : (radix place : ℕ) → Outcome State) (vs ms rows : List ℕ) (r : Fixed) (vs′ ms′ rows′ : List ℕ) : Type 0 where
-  pub says : (radix place : ℕ) → toldState place r vs′ ms′ rows′ ≡ o radix place
-  pub room : usedBy r ≤ 1024
-  pub rest : drop (9 * usedBy r) rows′ ≡ drop (9 * usedBy r) rows
-  pub same : writes r ≡ false → (vs′ ≡ vs) × ((ms′ ≡ ms) × (rows′ ≡ rows))
 
 -- a pair of any area, and every lent byte: where it fits, what the definition says; else a misfit; and nothing has changed unless it is placed
 pub record PairPlaced (fit : Bool) (o : (radix end : ℕ) → Outcome State) (vs ms rows : List ℕ) (r : Placed) (vs′ ms′ rows′ : List ℕ) : Type 0 where

@@ -1,4 +1,4 @@
--- Whether a pair's numbers fit, and where the pair goes.
+-- Where a pair goes.
 -- Assumes nothing.
 use Prim.Native.Nat.{ℕ, _+_}
 use mathlib.Core.Bool.{Bool, _&&_}
@@ -8,20 +8,12 @@ use lib.Dec.{leb}
 use Rattle.format.specs.Lists.{pick}
 use Rattle.format.specs.Tables.{lastIndex}
 use Rattle.homes.specs.declared.Home.{Home}
-use Rattle.place.specs.declared.pair.Line.{Line}
-use Rattle.place.specs.declared.pair.Filled.{Filled}
-use Rattle.place.specs.declared.site.Site.{Site}
+use Rattle.sites.specs.declared.Line.{Line}
+use Rattle.sites.specs.declared.Filled.{Filled}
+use Rattle.sites.specs.declared.Site.{Site}
 use Rattle.place.specs.declared.site.Found.{Found}
 use Rattle.place.specs.declared.site.Found.the-variants.{Unkept, Misfit, At}
-use Rattle.place.specs.Named.{names}
-
--- a line's counts are within the bounds, and as many content bytes are lent
-unfoldable pub lineFits : Line → (lent : ℕ) → Bool
-lineFits l lent = leb (l .width) 4 && (leb (l .bytes) 256 && (leb (l .bytes) lent && leb (l .fragments) 64))
-
--- the counts of rows are, and the fixup rows have room
-unfoldable pub filledFits : Filled → (room : ℕ) → Bool
-filledFits n room = leb (n .areas) 64 && (leb (n .symbols) 1024 && (leb (n .fixups) 1024 && leb 9216 room))
+use Rattle.classes.specs.Named.{names}
 
 -- an image of a size that starts at a place ends within the bound, and the table has the classes of the first c modes
 unfoldable pub imageFits : (table ms : List ℕ) (start size c : ℕ) → Bool

@@ -16,16 +16,10 @@ use Rattle.format.specs.WorkLine.{beyond, stepAt, partly}
 use Rattle.format.specs.WorkLine as defs
 use Rattle.mode.specs.declared.step.Step.{Step}
 use Rattle.mode.specs.Step.{toldStep}
-use Rattle.place.specs.declared.pair.Line.{Line}
+use Rattle.sites.specs.declared.Line.{Line}
 use Rattle.place.specs.declared.work_line.Worked.{Worked}
 use Rattle.place.specs.declared.work_line.Worked.the-variants.{Beyond, Numbers}
-use Rattle.place.specs.Columns.{fragmentAt, fragmentsIn}
-
--- a line within the bounds
-pub record Short (l : Line) : Type 0 where
-  pub address : l .width ≤ 4
-  pub content : l .bytes ≤ 256
-  pub fragments : l .fragments ≤ 64
+use Rattle.sites.specs.Columns.{fragmentAt, fragmentsIn}
 
 -- the work line that three arrays hold, and the numbers, of which k are made
 unfoldable pub lineOf : (wv wm wk ns : List ℕ) → ℕ → defs.Worked

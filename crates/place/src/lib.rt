@@ -1,22 +1,7 @@
-// One T and R pair placed in its area's image: its work line, its fixups and its bytes; and fixup rows grouped by area.
-mod check;
-mod group;
-mod image;
-mod named;
-mod next;
+// One T and R pair placed in its area's image: its work line, its fixups and its bytes.
 mod pair;
-mod pass;
-mod plain;
-mod references;
-mod row;
 mod site;
-mod sure;
-mod walk;
 mod work_line;
 
-pub use group::Grouped;
-pub use group::by_area;
-pub use pair::Filled;
-pub use pair::Line;
 pub use pair::Placed;
 pub use pair::place_pair;

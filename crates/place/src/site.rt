@@ -1,23 +1,17 @@
-// Where a pair goes: whether its numbers fit, and its site in the image of its area.
-use crate::named::names_classes;
-use crate::pair::Filled;
-use crate::pair::Line;
+// Where a pair goes: nowhere, not where its numbers do not fit, or to a site in the image of its area.
 use cells::wide;
+use classes::names_classes;
 use homes::Home;
+use sites::Filled;
+use sites::Line;
+use sites::Site;
+use sites::counts_fit;
 ghost use mathlib.Core.Path.{_≡_};
 ghost use mathlib.Core.Bool.{_&&_};
 ghost use Prim.Native.Nat.{_≤_, _-_};
-ghost use Rattle.place.specs.Site.{lineFits, filledFits, imageFits, siteAt, found};
-
-// Where a pair goes: its line, the counts of rows, the id of its area, where the image starts, its size, and how many numbers its fragments made.
-pub(crate) struct Site {
-    pub(crate) line: Line,
-    pub(crate) filled: Filled,
-    pub(crate) home: u32,
-    pub(crate) start: usize,
-    pub(crate) size: u32,
-    pub(crate) made: usize,
-}
+ghost use lib.Dec.{eqb};
+ghost use Rattle.sites.specs.Site.{lineFits, filledFits};
+ghost use Rattle.place.specs.Site.{imageFits, siteAt, found};
 
 // That an area is not kept, that the numbers do not fit, or a pair's site.
 pub(crate) enum Found {
@@ -26,46 +20,14 @@ pub(crate) enum Found {
     At(Site),
 }
 
-// Whether a line's counts are within the bounds, and as many content bytes are lent.
-fn line_fits(line: Line, lent: usize) -> bool
-    ensures { λ r. ⌜ r ≡ lineFits line lent ⌝ }
+// Whether a home is that of a line's area, and the counts fit.
+pub(crate) fn home_fits(home: Home, line: Line, filled: Filled, lent: usize, room: usize) -> bool
+    ensures { λ r. ⌜ r ≡ (eqb (home .area) (line .area) && (lineFits line lent && filledFits filled room)) ⌝ }
 {
-    if 4 < line.width {
+    if home.area != line.area {
         return false;
     }
-    if 256 < line.bytes {
-        return false;
-    }
-    if lent < line.bytes {
-        return false;
-    }
-    line.fragments <= 64
-}
-
-// Whether the counts of rows are, and the fixup rows have room.
-fn filled_fits(filled: Filled, room: usize) -> bool
-    ensures { λ r. ⌜ r ≡ filledFits filled room ⌝ }
-{
-    if 64 < filled.areas {
-        return false;
-    }
-    if 1024 < filled.symbols {
-        return false;
-    }
-    if 1024 < filled.fixups {
-        return false;
-    }
-    9216 <= room
-}
-
-// Whether both do.
-pub(crate) fn counts_fit(line: Line, filled: Filled, lent: usize, room: usize) -> bool
-    ensures { λ r. ⌜ r ≡ (lineFits line lent && filledFits filled room) ⌝ }
-{
-    if line_fits(line, lent) {
-        return filled_fits(filled, room);
-    }
-    false
+    counts_fit(line, filled, lent, room)
 }
 
 // The site of a pair at a home that has an id.

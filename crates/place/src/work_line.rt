@@ -1,8 +1,5 @@
 // The work line of a pair: its content, and its fragments worked in.
 // Here bs are the content bytes; ms and es the fragments' modes and entries; wv, wm and wk the work line's values, masks and kept flags; ns the numbers made.
-use crate::named::class_at;
-use crate::pair::Line;
-use crate::site::Site;
 use cells::at;
 use cells::copy_bytes;
 use cells::fill_bytes;
@@ -10,23 +7,35 @@ use cells::put_u32;
 use cells::wide;
 use mode::JumpType;
 use mode::Step;
+use mode::class_in;
 use mode::modify_cmf_to_fixup;
 use mode::touched;
+use sites::Line;
+use sites::Site;
 ghost use mathlib.Core.Path.{_≡_};
 ghost use mathlib.Core.List.{List, [], _∷_, _++_};
 ghost use Prim.Native.Nat.{ℕ, _≤_, _<_, _+_};
 ghost use lib.ListN.{length, take, replicate, getD};
-ghost use Rattle.format.specs.Mode.{touchedOf};
+ghost use Rattle.format.specs.Mode.{classOf, touchedOf};
 ghost use Rattle.format.specs.WorkLine.{padded};
 ghost use Rattle.mode.specs.Class.{toldClass};
-ghost use Rattle.place.specs.Named.{Named, NamedAt};
-ghost use Rattle.place.specs.Work.{Short, lineOf, allTurns, Applied, Turned, Whole};
+ghost use Rattle.classes.specs.Named.{Named, NamedAt};
+ghost use Rattle.sites.specs.Site.{Short};
+ghost use Rattle.place.specs.Work.{lineOf, allTurns, Applied, Turned, Whole};
 ghost use Rattle.place.specs.Pair.{Prepared};
 
 // That a fragment's entries run past the line, or how many numbers are made.
 pub(crate) enum Worked {
     Beyond,
     Numbers(usize),
+}
+
+// The class that a table has for the i-th mode of a column, which it names.
+fn class_at(table: &[u8; 2048], ms: &[u32], i: usize) -> JumpType
+    requires { ⌜ NamedAt (now table) (now ms) i ⌝ }
+    ensures { λ r. ⌜ toldClass r ≡ classOf (getD (now (ms .entry)) i 0) ⌝ }
+{
+    class_in(table, at(ms, i))
 }
 
 // The content laid into a work line that is all 0.

@@ -1,12 +1,16 @@
-use Rattle.place.proofs.PairLaws.{processing}
+use Rattle.place.proofs.WorkedLaws.{processing}
 use Rattle.place.proofs.pair.place_fragments.Statement.{statement}
 use Rattle.place.proofs.pair.place_fragments.Tie as tie
+use Rattle.place.proofs.pair.place_fragments.Reads as reads
+use Rattle.place.proofs.pair.place_fragments.Lts as lts
+use Rattle.place.proofs.pair.place_worked.Reads as place-worked-reads
+use Rattle.place.proofs.work_line.work_line.Reads as work-line-reads
 
 work-line-requires : tie.Need-work-line-requires
 work-line-requires c κs = (search processing, (search processing, (search processing, (search processing, search processing, search processing))))
 
 place-worked-requires : tie.Need-place-worked-requires
-place-worked-requires c κs = (search processing, (search processing, (search processing, search processing)))
+place-worked-requires c κs = (search processing, (search processing, search processing))
 
 same-length : tie.Need-same-length
 same-length c = search processing

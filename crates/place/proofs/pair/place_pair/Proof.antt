@@ -1,15 +1,17 @@
 use Rattle.place.proofs.PairLaws.{placing}
 use Rattle.place.proofs.pair.place_pair.Statement.{statement}
 use Rattle.place.proofs.pair.place_pair.Tie as tie
+use Rattle.place.proofs.pair.place_pair.Reads as reads
+use Rattle.place.proofs.pair.place_pair.Lts as lts
+use Rattle.place.proofs.pair.process_relocs.Reads as process-relocs-reads
+use Rattle.place.proofs.site.home_fits.Reads as home-fits-reads
+use Rattle.place.proofs.site.locate.Reads as locate-reads
+
+home-fits-requires : tie.Need-home-fits-requires
+home-fits-requires c κs = search placing
 
 returns : tie.Need-returns
 returns c = search placing
-
-counts-fit-requires : tie.Need-counts-fit-requires
-counts-fit-requires c κs = search placing
-
-returns-2 : tie.Need-returns-2
-returns-2 c = search placing
 
 locate-requires : tie.Need-locate-requires
 locate-requires c κs = search placing
@@ -26,14 +28,11 @@ enum-known-site c = search placing
 process-relocs-requires : tie.Need-process-relocs-requires
 process-relocs-requires c κs = search placing
 
-finish-requires : tie.Need-finish-requires
-finish-requires c κs = search placing
+returns-2 : tie.Need-returns-2
+returns-2 c = search placing
 
 returns-3 : tie.Need-returns-3
 returns-3 c = search placing
-
-returns-4 : tie.Need-returns-4
-returns-4 c = search placing
 
 same-length : tie.Need-same-length
 same-length c = search placing
@@ -44,25 +43,23 @@ same-length-2 c = search placing
 same-length-3 : tie.Need-same-length-3
 same-length-3 c = search placing
 
-returns-5 : tie.Need-returns-5
-returns-5 c = search placing
+returns-4 : tie.Need-returns-4
+returns-4 c = search placing
 
 pub place-pair-spec : {M : Type 1} → statement M
 place-pair-spec =
     tie.close
     (tie.spec
+    home-fits-requires
     returns
-    counts-fit-requires
-    returns-2
     locate-requires
     enum-told
     enum-told-2
     enum-known-site
     process-relocs-requires
-    finish-requires
+    returns-2
     returns-3
-    returns-4
     same-length
     same-length-2
     same-length-3
-    returns-5)
+    returns-4)

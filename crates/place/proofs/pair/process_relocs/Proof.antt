@@ -1,6 +1,10 @@
 use Rattle.place.proofs.PlainPairLaws.{plainly}
 use Rattle.place.proofs.pair.process_relocs.Statement.{statement}
 use Rattle.place.proofs.pair.process_relocs.Tie as tie
+use Rattle.place.proofs.pair.process_relocs.Reads as reads
+use Rattle.place.proofs.pair.process_relocs.Lts as lts
+use Rattle.images.proofs.write_plain.Reads as write-plain-reads
+use Rattle.place.proofs.pair.place_fragments.Reads as place-fragments-reads
 
 write-plain-requires : tie.Need-write-plain-requires
 write-plain-requires c κs = search plainly

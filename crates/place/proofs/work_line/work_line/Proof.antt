@@ -1,4 +1,4 @@
-use Rattle.place.proofs.PairLaws.{preparing}
+use Rattle.place.proofs.WorkedLaws.{preparing}
 use Rattle.place.proofs.work_line.work_line.Statement.{statement}
 use Rattle.place.proofs.work_line.work_line.Tie as tie
 
