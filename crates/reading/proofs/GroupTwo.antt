@@ -6,9 +6,8 @@ use mathlib.Core.Bool.{Bool, true, false}
 use mathlib.Core.List.{List, [], _∷_, _++_, map, append-assoc}
 use mathlib.Core.Option.{some}
 use native.Mathlib.Omega.{arith}
-use native.Mathlib.Nat.{zero-add}
 use lib.ListN.{length, take, drop, length-append, length-map, replicate, length-replicate}
-use lib.Seq.{sets, sets-eq, length-sets, take-append-seam, getD-at}
+use lib.Seq.{sets, length-sets, take-append-seam, getD-at}
 use lib.Dec.{ltb}
 use borrow.Author.Needs.{needs}
 use borrow.Author.Tests.{lt-ltb, le-ltb, le-leb, lt-leb, ltb-true, ltb-false}
@@ -27,7 +26,7 @@ use Rattle.text.specs.Told.{formOf, moreOf}
 use Rattle.text.specs.declared.Form as text
 use Rattle.text.specs.declared.Width.{Width}
 use Rattle.text.specs.declared.Width.the-variants as wide
-use Rattle.line.specs.Pairs.{Rows}
+use Rattle.line.specs.Pairs.{Rows, modes, entries, indexes}
 use Rattle.place.specs.Columns.{fragmentAt, fragmentsIn}
 use Rattle.place.specs.Pair.{contentOf, pairOf, pairIn, fits as fitsIn, told, usedNow, PairPlaced}
 use Rattle.homes.specs.Home.{homeAt}
@@ -38,12 +37,13 @@ use Rattle.place.specs.declared.pair.Filled.{Filled}
 use Rattle.place.specs.declared.pair.Line.{Line}
 use Rattle.place.specs.declared.pair.Placed as place
 use Rattle.place.specs.declared.pair.Placed.the-variants.{Done as Through, Stopped, Misfit}
-use Rattle.reading.specs.PairLines.{AsLong, PlacedIs, BodyIs, stepTo, StepOf, StepSays, PairStepIs}
+use Rattle.steps.proofs.Stored.{laid}
+use Rattle.steps.specs.PairLines.{LeftAt, bytesAt, fragmentsAt, PlacedIs, BodyIs, stepTo, StepOf, StepSays, PairStepIs}
 use Rattle.reading.specs.Onward.{endsOf, Ended, stands, onward, onwardAt, toldTwo, FewIn, GroupedTwo, endingWith, endingOf, afterOf, steppedOf, standingIn, overOf, placedOf, lineFor, planOf, turnOf, twoOf, standingOf, filledOf, Sound, Ready, Columns, PlaceReady, Advances, GoesOn, TurnSays, TurnIs}
-use Rattle.reading.specs.declared.pair.Body.{Body}
-use Rattle.reading.specs.declared.pair.Body.the-variants.{Skipped, Placed}
-use Rattle.reading.specs.declared.pair.PairStep.{PairStep}
-use Rattle.reading.specs.declared.pair.PairStep.the-variants.{Ends, Takes}
+use Rattle.steps.specs.declared.pair.Body.{Body}
+use Rattle.steps.specs.declared.pair.Body.the-variants.{Skipped, Placed}
+use Rattle.steps.specs.declared.pair.PairStep.{PairStep}
+use Rattle.steps.specs.declared.pair.PairStep.the-variants.{Ends, Takes}
 use Rattle.reading.specs.declared.plan.Standing.{Standing}
 use Rattle.reading.specs.declared.plan.Standing.the-variants.{Made, Kept}
 use Rattle.reading.specs.declared.plan.Going.{Going}
@@ -147,9 +147,6 @@ module _ (ms₀ es₀ xs₀ : List ℕ) where
       ∙ columns (ps ++ f .mode ∷ []) (qs ++ f .entry ∷ []) (rs ++ f .index ∷ []) fs (suc i)
       (simp length-append (omega arith)) (simp length-append (omega arith)) (simp length-append (omega arith)))) in
       λ j. one j ∷ more j
-
-pub laid : (xs room : List ℕ) → length xs ≤ length room → sets room 0 xs ≡ xs ++ drop (length xs) room
-laid xs room h = let z : 0 + length xs ≡ length xs = zero-add (length xs) in sets-eq xs room 0 (omega arith) ∙ rw z
 
 pub fragments-in : (fs : List the.Fragment) {ms es xs ms′ es′ xs′ : List ℕ} → length fs ≤ length ms → length fs ≤ length es → length fs ≤ length xs
     → Rows fs ms es xs ms′ es′ xs′ → fragmentsIn ms′ es′ xs′ (length fs) ≡ fs
@@ -510,8 +507,13 @@ pub ruleset turns = (needs, ready-inside, ready-low, turn-leaves, turn-ready, tu
 pub columns-start : Columns (replicate 256 0) (replicate 64 0) (replicate 64 0) (replicate 64 0)
 columns-start = record { of-bytes = zeros-256; of-modes = zeros-64; of-entries = zeros-64; of-indexes = zeros-64 }
 
-pub columns-then : {b ms es xs b′ ms′ es′ xs′ : List ℕ} → Columns b ms es xs → AsLong b ms es xs b′ ms′ es′ xs′ → Columns b′ ms′ es′ xs′
-columns-then w v = record { of-bytes = v .bytes ∙ w .of-bytes; of-modes = v .modes ∙ w .of-modes; of-entries = v .entries ∙ w .of-entries; of-indexes = v .indexes ∙ w .of-indexes }
+pub columns-then : (f : Form) (text : List ℕ) (p : ℕ) {b ms es xs b′ ms′ es′ xs′ : List ℕ} → Columns b ms es xs → LeftAt f text p b ms es xs b′ ms′ es′ xs′ → Columns b′ ms′ es′ xs′
+columns-then f text p {b} {ms} {es} {xs} w v = record {
+  of-bytes = rw (v .bytes) (length-sets b 0 (bytesAt f text p) ∙ w .of-bytes);
+  of-modes = rw (v .rows .of-modes) (length-sets ms 0 (modes (fragmentsAt f text p)) ∙ w .of-modes);
+  of-entries = rw (v .rows .of-entries) (length-sets es 0 (entries (fragmentsAt f text p)) ∙ w .of-entries);
+  of-indexes = rw (v .rows .of-indexes) (length-sets xs 0 (indexes (fragmentsAt f text p)) ∙ w .of-indexes);
+}
 
 pub ruleset lending = (needs, columns-start, columns-then)
 

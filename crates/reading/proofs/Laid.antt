@@ -28,25 +28,28 @@ use Rattle.homes.proofs.Laws.{home-past}
 use Rattle.place.specs.declared.group.Grouped as place
 use Rattle.text.proofs.Laws.Tests.{was-no, was-yes}
 use Rattle.reading.specs.Answer.{toldCounts, held}
-use Rattle.reading.specs.WayIn.{Rooms}
-use Rattle.reading.specs.GroupOne.{Hold, Read, Grouped}
+use Rattle.way_in.specs.WayIn.{Rooms}
+use Rattle.tables.specs.GroupOne.{Hold, Read, Refuses, Grouped}
 use Rattle.reading.specs.Onward.{Ended, endsOf, onward, onwardAt, toldTwo, GroupedTwo, endingOf, Ready}
-use Rattle.reading.specs.Laid.{goingAt, startingOf, Begun, Blank, pairsFrom, onwardFrom, SecondIs, Whole, wholeOf, wholeAt, wholeLines, verdictAt, Laid, TablesOut, ImagesOut, countsFrom, AcceptedIs, HeaderOnly, answerOne, answerTwo, RestIs}
+use Rattle.reading.specs.Laid.{goingAt, startingOf, Begun, Blank, pairsFrom, onwardFrom, SecondIs, Whole, wholeOf, wholeAt, wholeLines, verdictAt, Laid, TablesOut, ImagesOut, countsFrom, AcceptedIs, HeaderOnly, answerTwo, RestIs}
 use Rattle.reading.specs.declared.Answer as code
 use Rattle.reading.specs.declared.Answer.the-variants.{Refusal, Accepted}
 use Rattle.reading.specs.declared.Verdict.the-variants.{Finished, Stopped}
 use Rattle.reading.specs.declared.Counts.{Counts}
-use Rattle.reading.specs.declared.sizes.Sizes.{Sizes}
-use Rattle.reading.specs.declared.group_one.Found.{Found}
-use Rattle.reading.specs.declared.group_one.One.{One}
-use Rattle.reading.specs.declared.group_one.One.the-variants.{Done, Refused}
+use Rattle.tables.specs.declared.sizes.Sizes.{Sizes}
+use Rattle.tables.specs.declared.group.Found.{Found}
+use Rattle.tables.specs.declared.group.Listed.{Listed}
+use Rattle.tables.specs.declared.group.Listed.the-variants.{Done, Refused, TooLong}
 use Rattle.reading.specs.declared.plan.Standing.the-variants.{Made, Kept}
 use Rattle.reading.specs.declared.plan.Going.{Going}
 use Rattle.reading.specs.declared.plan.Two.{Two}
 use Rattle.reading.specs.declared.plan.Two.the-variants.{All, Rejected}
-use Rattle.reading.proofs.GroupOne.{flat-length, six-numbers, five-numbers}
-use Rattle.reading.proofs.GroupTwo.{laid, onward-end, few-end}
-use Rattle.reading.proofs.TableRows.{areas-held, tables-held}
+use Rattle.steps.proofs.Stored.{laid}
+use Rattle.tables.specs.Sizes.{SizesAre, few}
+use Rattle.tables.proofs.KeptSizes.{sizes-all}
+use Rattle.tables.proofs.Growth.{flat-length, six-numbers, five-numbers}
+use Rattle.reading.proofs.GroupTwo.{onward-end, few-end}
+use Rattle.tables.proofs.TableRows.{areas-held, tables-held}
 
 -- ------------------------------------------------------------------ small answers
 
@@ -62,12 +65,6 @@ header-refused n e h = record { header-is = rw h }
 pub header-accepted : {ended : Bool} {n e : ℕ} {r : code.Answer} → ended ≡ false → AcceptedIs (record { areas = 0; symbols = 0; lines = 0; kept = 0; positions = 0; fixups = 0 }) n e r → HeaderOnly ended n e r
 header-accepted h w = record { header-is = rw h (w .accepts) }
 
-pub one-refused : {o : One} {n p : ℕ} → o ≡ Refused n p → Refusal n p ≡ answerOne o
-one-refused e = rw e
-
-pub one-done : {o : One} {d : Found} → o ≡ Done d → Refusal 0 0 ≡ answerOne o
-one-done e = rw e
-
 pub two-rejected : {o : Two} {n p : ℕ} → o ≡ Rejected n p → Refusal n p ≡ answerTwo o
 two-rejected e = rw e
 
@@ -81,7 +78,7 @@ module _ (d : Found) (z : ℕ) {g : Going} where
   pub start-none : z ≤ 65536 → g ≡ goingAt d z (d .more) (Made 0) → g ≡ startingOf d z
   start-none h e = rw (e, le-ltb 65536 z h)
 
-pub ruleset answers = (needs, accept-finished, accept-stopped, header-refused, header-accepted, one-refused, one-done, two-rejected, two-all, start-nine, start-none)
+pub ruleset answers = (needs, accept-finished, accept-stopped, header-refused, header-accepted, two-rejected, two-all, start-nine, start-none)
 
 -- ------------------------------------------------------------------ rows out
 
@@ -238,7 +235,11 @@ blank-large {text} {xs} {d} {s} u = go (ltb 65536 (s .total)) refl
     go true k = blank-of 0 65536 (omega arith)
     go false k = blank-of (s .total) 65536 (ltb-false 65536 (s .total) k)
 
-pub ruleset sizing = (needs, blank-small, blank-large)
+-- what it begins with
+pub begun : {text xs : List ℕ} {d : Found} {s : Sizes} → d .next ≤ length text → length text ≤ 65536 → d .areas ≤ 64 → d .symbols ≤ 1024 → SizesAre xs (few (d .areas)) s → Begun text xs d s
+begun a b c e w = record { inside = a; short = b; areas-low = c; symbols-low = e; sizes = sizes-all w c }
+
+pub ruleset sizing = (needs, blank-small, blank-large, begun)
 
 -- ------------------------------------------------------------------ `over_images`
 
@@ -267,14 +268,14 @@ module _ {ended : Bool} {f : Form} {text : List ℕ} (d : Found) {xs ys : List �
   }
 
   module _ {lines stop k : ℕ} (h : two ≡ All lines stop k) where
-    few : k ≤ 1024
-    few = rw h at (v .grouped .few)
+    few-fixups : k ≤ 1024
+    few-fixups = rw h at (v .grouped .few)
 
     pub rest-rows : length rows ≡ length rows₀ → length rows₀ ≡ 9216 → 9 * k ≤ length rows
-    rest-rows a b = omega (arith, few)
+    rest-rows a b = omega (arith, few-fixups)
 
     pub rest-out : {a b c m n : ℕ} → Rooms a b c m n → 9 * k ≤ n
-    rest-out r = omega (arith, few, r .for-fixups)
+    rest-out r = omega (arith, few-fixups, r .for-fixups)
 
     long : (g .positions ≡ s .total) × (s .total ≤ 65536)
     unfolding starts tablesIn areasIn
@@ -346,20 +347,24 @@ flatten t p e P h i (fine n) (fine z) (fine s) =
     let k : paper.Built = record { tables = t; lines = n; size = z; state = s } in
     λ j. fine (record { built = i k j; stop = h k j })
 
-module _ (ended : Bool) (f : Form) (text : List ℕ) (at head : ℕ) (xs₀ ys₀ xs ys : List ℕ) {o : One} (w : Grouped ended f text at head xs₀ ys₀ xs ys o) where
-  pub lines-refused : {n p : ℕ} → o ≡ Refused n p → {r : code.Answer} → r ≡ answerOne o → (old : Held) → Laid (length text) (wholeLines ended f text at head) old r old
+module _ (ended : Bool) (f : Form) (text : List ℕ) (at head : ℕ) (xs₀ ys₀ xs ys : List ℕ) {o : Listed} (w : Grouped ended f text at head xs₀ ys₀ xs ys o) where
+  pub lines-refused : {n p : ℕ} → o ≡ Refused n p → (old : Held) → Laid (length text) (wholeLines ended f text at head) old (Refusal n p) old
   unfolding wholeLines paper.readOf paper.build Grouped over
-  lines-refused {n} {p} g i old =
-      let k : tables (recordsAt ended f text at .entries) ≡ refused n p = rw g at w in
-      rw (i, g, k) (record { says = refl; areas = refl; symbols = refl; values = refl; masks = refl; fixups = refl })
+  lines-refused {n} {p} g old =
+      let k : Refuses ended f text at xs₀ ys₀ xs ys n p = rw g at w in
+      rw (k .says) (record { says = refl; areas = refl; symbols = refl; values = refl; masks = refl; fixups = refl })
+
+  pub lines-long : o ≡ TooLong → length text ≤ 65536 → (old : Held) → Laid (length text) (wholeLines ended f text at head) old (Refusal 2 0) old
+  unfolding Grouped
+  lines-long g h old = let k : (65536 < length text) × (xs ≡ xs₀) × (ys ≡ ys₀) = rw g at w in absurd (omega (arith, k .0))
 
   module _ {d : Found} (g : o ≡ Done d) where
     found : Read ended f text at head xs₀ ys₀ xs ys d
     unfolding Grouped
     found = rw g at w
 
-    pub lines-next : d .next ≤ length text
-    lines-next = found .inside
+    pub lines-next : at ≤ length text → d .next ≤ length text
+    lines-next h = found .inside h
 
     pub lines-areas : d .areas ≤ 64
     lines-areas = found .areas-low
@@ -383,7 +388,7 @@ module _ (ended : Bool) (f : Form) (text : List ℕ) (at head : ℕ) (xs₀ ys�
     pub lines-rest : length xs₀ ≡ 384 → length ys₀ ≡ 5120 → {old new : Held} {r : code.Answer} → RestIs ended f text d xs ys old r new → Laid (length text) (wholeLines ended f text at head) old r new
     lines-rest lx ly {old} {new} {r} v = subst (λ (x : Outcome Whole). Laid (length text) x old r new) (sym lines-are) (v .laid (found .sofar) xs₀ ys₀ lx ly (found .held))
 
-pub ruleset lines = (needs, zeros-384, zeros-5120, lines-refused, lines-next, lines-areas, lines-symbols, lines-rest)
+pub ruleset lines = (needs, zeros-384, zeros-5120, lines-refused, lines-long, lines-next, lines-areas, lines-symbols, lines-rest)
 
 -- ------------------------------------------------------------------ `second`
 

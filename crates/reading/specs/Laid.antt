@@ -22,26 +22,19 @@ use Rattle.laws.specs.Rows.{areasIn, tablesIn, fixupsIn}
 use Rattle.place.specs.Group.{areasFor}
 use Rattle.homes.specs.Home.{noHome}
 use Rattle.reading.specs.Answer.{told, toldCounts}
-use Rattle.reading.specs.GroupOne.{Hold}
+use Rattle.tables.specs.GroupOne.{Hold}
+use Rattle.tables.specs.Sizes.{SizesAre}
 use Rattle.reading.specs.Onward.{Ended, GroupedTwo, endsOf, onward}
 use Rattle.reading.specs.declared.Answer as code
 use Rattle.reading.specs.declared.Answer.the-variants.{Refusal}
 use Rattle.reading.specs.declared.Counts.{Counts}
-use Rattle.reading.specs.declared.sizes.Sizes.{Sizes}
-use Rattle.reading.specs.declared.group_one.Found.{Found}
-use Rattle.reading.specs.declared.group_one.One.{One}
-use Rattle.reading.specs.declared.group_one.One.the-variants.{Done, Refused}
+use Rattle.tables.specs.declared.sizes.Sizes.{Sizes}
+use Rattle.tables.specs.declared.group.Found.{Found}
 use Rattle.reading.specs.declared.plan.Standing.{Standing}
 use Rattle.reading.specs.declared.plan.Standing.the-variants.{Made, Kept}
 use Rattle.reading.specs.declared.plan.Going.{Going}
 use Rattle.reading.specs.declared.plan.Two.{Two}
 use Rattle.reading.specs.declared.plan.Two.the-variants.{All, Rejected}
-
--- the kept areas of rows
-pub record SizesAre (areas : List ℕ) (n : ℕ) (r : Sizes) : Type 0 where
-  pub total-is : r .total ≡ total (areasIn areas n)
-  pub kept-is : r .kept ≡ keptCount (areasIn areas n)
-  pub kept-low : r .kept ≤ 64
 
 -- group two before its first pair
 abbrev pub goingAt : Found → (positions : ℕ) → Bool → Standing → Going
@@ -145,11 +138,7 @@ pub record AcceptedIs (c : Counts) (n stop : ℕ) (r : code.Answer) : Type 0 whe
 pub record HeaderOnly (ended : Bool) (n next : ℕ) (r : code.Answer) : Type 0 where
   pub header-is : told r ≡ pick ended (paper.refusal 4 0) (paper.accepted (record { areas = 0; symbols = 0; lines = 0; kept = 0; positions = 0; fixups = 0 }) (verdictAt n next))
 
--- a refusal of each group
-abbrev pub answerOne : One → code.Answer
-answerOne (Refused n p) = Refusal n p
-answerOne (Done d) = Refusal 0 0
-
+-- a refusal of group two
 abbrev pub answerTwo : Two → code.Answer
 answerTwo (Rejected n p) = Refusal n p
 answerTwo (All n e k) = Refusal 0 0

@@ -25,9 +25,9 @@ use Rattle.place.specs.declared.pair.Filled.{Filled}
 use Rattle.place.specs.declared.pair.Line.{Line}
 use Rattle.place.specs.declared.pair.Placed as place
 use Rattle.place.specs.declared.pair.Placed.the-variants.{Done as Through, Stopped, Misfit}
-use Rattle.reading.specs.declared.pair.Body.the-variants.{Skipped, Placed}
-use Rattle.reading.specs.declared.pair.PairStep.{PairStep}
-use Rattle.reading.specs.declared.pair.PairStep.the-variants.{Ends, Takes}
+use Rattle.steps.specs.declared.pair.Body.the-variants.{Skipped, Placed}
+use Rattle.steps.specs.declared.pair.PairStep.{PairStep}
+use Rattle.steps.specs.declared.pair.PairStep.the-variants.{Ends, Takes}
 use Rattle.reading.specs.declared.plan.Standing.{Standing}
 use Rattle.reading.specs.declared.plan.Standing.the-variants.{Made, Kept}
 use Rattle.reading.specs.declared.plan.Going.{Going}

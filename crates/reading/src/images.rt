@@ -3,20 +3,20 @@ ghost use Prim.Native.Nat.{_≤_};
 ghost use lib.ListN.{length};
 ghost use Rattle.text.specs.Told.{formOf};
 ghost use Rattle.reading.specs.Answer.{held};
-ghost use Rattle.reading.specs.WayIn.{Rooms};
+ghost use Rattle.way_in.specs.WayIn.{Rooms};
 ghost use Rattle.reading.specs.Laid.{startingOf, Begun, Blank, RestIs};
 use crate::Answer;
 use crate::answers::accept;
 use crate::answers::counts_of;
 use crate::answers::refuse_two;
-use crate::group_one::Found;
 use crate::plan::Two;
 use crate::rows_out::lay_images;
 use crate::rows_out::lay_tables;
 use crate::second::second_over;
 use crate::second::starting;
-use crate::sizes::Sizes;
-use crate::sizes::sizes_of;
+use tables::Found;
+use tables::Sizes;
+use tables::sizes_of;
 use text::Form;
 
 // Over lent images of zeros. These and the rows are laid over the lent buffers once nothing is refused.

@@ -3,10 +3,10 @@ ghost use mathlib.Core.Path.{_≡_};
 ghost use Prim.Native.Nat.{_≤_, suc};
 ghost use Rattle.text.specs.Told.{moreOf};
 ghost use Rattle.reading.specs.Onward.{endingOf, afterOf, steppedOf, standingIn, overOf, placedOf, planOf, turnOf};
-use crate::pair::Body;
-use crate::pair::PairStep;
 use homes::Home;
 use place::Line;
+use steps::Body;
+use steps::PairStep;
 use text::Form;
 use text::Width;
 

@@ -5,13 +5,13 @@ ghost use lib.ListN.{length};
 ghost use Rattle.text.specs.Told.{formOf};
 ghost use Rattle.reading.specs.Onward.{Ready};
 ghost use Rattle.reading.specs.Laid.{goingAt, startingOf, SecondIs};
-use crate::group_one::Found;
 use crate::group_two::group_two;
 use crate::plan::Going;
 use crate::plan::Standing;
 use crate::plan::Two;
 use crate::plan::ending;
 use homes::Home;
+use tables::Found;
 use text::Form;
 
 // Group two before its first pair, over so many positions. The home is that of the index behind the last area, which is none.

@@ -6,7 +6,6 @@ ghost use Rattle.mode.specs.Class.{classTable};
 ghost use Rattle.homes.specs.Home.{homeAt};
 ghost use Rattle.text.specs.Told.{formOf};
 ghost use Rattle.reading.specs.Onward.{standingOf, filledOf, Ready, PlaceReady, Columns, Advances, TurnIs, onwardAt};
-use crate::pair::pair_step;
 use crate::plan::Going;
 use crate::plan::Plan;
 use crate::plan::Standing;
@@ -19,6 +18,7 @@ use homes::Home;
 use place::Filled;
 use place::Line;
 use place::Placed;
+use steps::pair_step;
 use text::Form;
 
 // How placing stands after a pair.
