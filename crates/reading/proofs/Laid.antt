@@ -30,8 +30,9 @@ use Rattle.text.proofs.Laws.Tests.{was-no, was-yes}
 use Rattle.reading.specs.Answer.{toldCounts, held}
 use Rattle.way_in.specs.WayIn.{Rooms}
 use Rattle.tables.specs.GroupOne.{Hold, Read, Refuses, Grouped}
-use Rattle.reading.specs.Onward.{Ended, endsOf, onward, onwardAt, toldTwo, GroupedTwo, endingOf, Ready}
-use Rattle.reading.specs.Laid.{goingAt, startingOf, Begun, Blank, pairsFrom, onwardFrom, SecondIs, Whole, wholeOf, wholeAt, wholeLines, verdictAt, Laid, TablesOut, ImagesOut, countsFrom, AcceptedIs, HeaderOnly, answerTwo, RestIs}
+use Rattle.planning.specs.Plan.{endingOf, goingAt, startingOf}
+use Rattle.reading.specs.Onward.{Ended, endsOf, onward, onwardAt, toldTwo, GroupedTwo, Ready}
+use Rattle.reading.specs.Laid.{Begun, Blank, pairsFrom, onwardFrom, SecondIs, Whole, wholeOf, wholeAt, wholeLines, verdictAt, Laid, TablesOut, ImagesOut, countsFrom, AcceptedIs, HeaderOnly, answerTwo, RestIs}
 use Rattle.reading.specs.declared.Answer as code
 use Rattle.reading.specs.declared.Answer.the-variants.{Refusal, Accepted}
 use Rattle.reading.specs.declared.Verdict.the-variants.{Finished, Stopped}
@@ -40,10 +41,10 @@ use Rattle.tables.specs.declared.sizes.Sizes.{Sizes}
 use Rattle.tables.specs.declared.group.Found.{Found}
 use Rattle.tables.specs.declared.group.Listed.{Listed}
 use Rattle.tables.specs.declared.group.Listed.the-variants.{Done, Refused, TooLong}
-use Rattle.reading.specs.declared.plan.Standing.the-variants.{Made, Kept}
-use Rattle.reading.specs.declared.plan.Going.{Going}
-use Rattle.reading.specs.declared.plan.Two.{Two}
-use Rattle.reading.specs.declared.plan.Two.the-variants.{All, Rejected}
+use Rattle.planning.specs.declared.state.Standing.the-variants.{Made, Kept}
+use Rattle.planning.specs.declared.state.Progress.{Progress}
+use Rattle.planning.specs.declared.state.Paired.{Paired}
+use Rattle.planning.specs.declared.state.Paired.the-variants.{All, Rejected}
 use Rattle.steps.proofs.Stored.{laid}
 use Rattle.tables.specs.Sizes.{SizesAre, few}
 use Rattle.tables.proofs.KeptSizes.{sizes-all}
@@ -65,20 +66,13 @@ header-refused n e h = record { header-is = rw h }
 pub header-accepted : {ended : Bool} {n e : ℕ} {r : code.Answer} → ended ≡ false → AcceptedIs (record { areas = 0; symbols = 0; lines = 0; kept = 0; positions = 0; fixups = 0 }) n e r → HeaderOnly ended n e r
 header-accepted h w = record { header-is = rw h (w .accepts) }
 
-pub two-rejected : {o : Two} {n p : ℕ} → o ≡ Rejected n p → Refusal n p ≡ answerTwo o
+pub two-rejected : {o : Paired} {n p : ℕ} → o ≡ Rejected n p → Refusal n p ≡ answerTwo o
 two-rejected e = rw e
 
-pub two-all : {o : Two} {n e k : ℕ} → o ≡ All n e k → Refusal 0 0 ≡ answerTwo o
+pub two-all : {o : Paired} {n e k : ℕ} → o ≡ All n e k → Refusal 0 0 ≡ answerTwo o
 two-all e = rw e
 
-module _ (d : Found) (z : ℕ) {g : Going} where
-  pub start-nine : 65536 < z → g ≡ goingAt d 0 (d .more) (Kept 9 0) → g ≡ startingOf d z
-  start-nine h e = rw (e, lt-ltb 65536 z h)
-
-  pub start-none : z ≤ 65536 → g ≡ goingAt d z (d .more) (Made 0) → g ≡ startingOf d z
-  start-none h e = rw (e, le-ltb 65536 z h)
-
-pub ruleset answers = (needs, accept-finished, accept-stopped, header-refused, header-accepted, two-rejected, two-all, start-nine, start-none)
+pub ruleset answers = (needs, accept-finished, accept-stopped, header-refused, header-accepted, two-rejected, two-all)
 
 -- ------------------------------------------------------------------ rows out
 
@@ -180,7 +174,7 @@ module _ (f : Form) (t : Tables) (ps : List (Taken the.Pair)) (d : Found) (z : �
 
 -- the start, by whether the kept sizes are too large
 module _ (ended : Bool) (f : Form) (text : List ℕ) (d : Found) (xs ys : List ℕ) (t : Tables) (z : ℕ) (et : tablesIn xs (d .areas) ys (d .symbols) ≡ t) (ez : z ≡ total (t .areas)) (rows : List ℕ) where
-  starts : (b : Bool) → ltb 65536 z ≡ b → Going
+  starts : (b : Bool) → ltb 65536 z ≡ b → Progress
   starts b h = pick b (goingAt d 0 (d .more) (Kept 9 0)) (goingAt d z (d .more) (Made 0))
 
   module _ (vs ms : List ℕ) where
@@ -204,7 +198,7 @@ module _ (ended : Bool) (f : Form) (text : List ℕ) (d : Found) (xs ys : List �
     fresh-fits false h e i = (refl, ltb-false 65536 z h)
 
 -- what group two asks of its start
-module _ {text : List ℕ} (d : Found) {xs : List ℕ} {s : Sizes} (u : Begun text xs d s) {g : Going} (e : g ≡ startingOf d (s .total)) where
+module _ {text : List ℕ} (d : Found) {xs : List ℕ} {s : Sizes} (u : Begun text xs d s) {g : Progress} (e : g ≡ startingOf d (s .total)) where
   pub start-ready : Ready text xs g
   start-ready = rw e (go (ltb 65536 (s .total)) refl)
     where
@@ -243,7 +237,7 @@ pub ruleset sizing = (needs, blank-small, blank-large, begun)
 
 -- ------------------------------------------------------------------ `over_images`
 
-module _ {ended : Bool} {f : Form} {text : List ℕ} (d : Found) {xs ys : List ℕ} {s : Sizes} (u : Begun text xs d s) {g : Going} (e : g ≡ startingOf d (s .total)) {two : Two} {vs₀ ms₀ rows₀ vs ms rows : List ℕ}
+module _ {ended : Bool} {f : Form} {text : List ℕ} (d : Found) {xs ys : List ℕ} {s : Sizes} (u : Begun text xs d s) {g : Progress} (e : g ≡ startingOf d (s .total)) {two : Paired} {vs₀ ms₀ rows₀ vs ms rows : List ℕ}
     (bv : Blank (startingOf d (s .total) .positions) vs₀) (bm : Blank (startingOf d (s .total) .positions) ms₀) (v : SecondIs ended f text xs ys g vs₀ ms₀ rows₀ two vs ms rows) where
   same-tables : {t : Tables} {xs₀ ys₀ : List ℕ} → length xs₀ ≡ 384 → length ys₀ ≡ 5120 → Hold t xs₀ ys₀ xs ys (d .areas) (d .symbols) → tablesIn xs (d .areas) ys (d .symbols) ≡ t
   same-tables lx ly h = tables-held h (omega (arith, u .areas-low)) (omega (arith, u .symbols-low))
@@ -256,7 +250,7 @@ module _ {ended : Bool} {f : Form} {text : List ℕ} (d : Found) {xs ys : List �
   unfolding starts
   comes-to {t} lx ly h =
       fresh-whole ended f text d xs ys t (s .total) (same-tables lx ly h) (same-total lx ly h) rows₀ vs₀ ms₀ (ltb 65536 (s .total)) refl (bv .zeros) (bm .zeros)
-      ∙ (ap (λ (x : Going). andThen (onwardFrom ended f text xs ys x (take (x .positions) vs₀) (take (x .positions) ms₀) rows₀) (λ x. fine (wholeFrom t (s .total) x))) (sym e)
+      ∙ (ap (λ (x : Progress). andThen (onwardFrom ended f text xs ys x (take (x .positions) vs₀) (take (x .positions) ms₀) rows₀) (λ x. fine (wholeFrom t (s .total) x))) (sym e)
       ∙ ap (λ (o : Outcome Ended). andThen o (λ x. fine (wholeFrom t (s .total) x))) (sym (v .grouped .says)))
 
   pub rest-refused : {n p : ℕ} → two ≡ Rejected n p → {r : code.Answer} → r ≡ answerTwo two → (old : Held) → RestIs ended f text d xs ys old r old
@@ -282,9 +276,9 @@ module _ {ended : Bool} {f : Form} {text : List ℕ} (d : Found) {xs ys : List �
     long =
         let fine-is : fine (record { lines = lines; stop = stop; state = stateOf (take (g .positions) vs) (take (g .positions) ms) rows k })
         ≡ onwardFrom ended f text xs ys g (take (g .positions) vs₀) (take (g .positions) ms₀) rows₀ = rw h at (v .grouped .says) in
-        let start : _ = ap (λ (x : Going). onwardFrom ended f text xs ys x (take (x .positions) vs₀) (take (x .positions) ms₀) rows₀) e in
+        let start : _ = ap (λ (x : Progress). onwardFrom ended f text xs ys x (take (x .positions) vs₀) (take (x .positions) ms₀) rows₀) e in
         let z = fresh-fits ended f text d xs ys (tablesIn xs (d .areas) ys (d .symbols)) (s .total) refl (u .sizes .total-is) rows₀ vs₀ ms₀ (ltb 65536 (s .total)) refl _ (fine-is ∙ start) in
-        (ap (λ (x : Going). x .positions) e ∙ z .0, z .1)
+        (ap (λ (x : Progress). x .positions) e ∙ z .0, z .1)
 
     pub rest-done : {c : Counts} → c ≡ countsFrom d s lines k → {areas symbols values masks fixups areas′ symbols′ values′ masks′ fixups′ : List ℕ}
         → Rooms (length areas) (length symbols) (length values) (length masks) (length fixups)
@@ -392,8 +386,8 @@ pub ruleset lines = (needs, zeros-384, zeros-5120, lines-refused, lines-long, li
 
 -- ------------------------------------------------------------------ `second`
 
-module _ (ended : Bool) (f : Form) {text areas : List ℕ} (symbols : List ℕ) {g : Going} (r : Ready text areas g) where
-  pub second-none : not (g .on) ≡ true → {two : Two} → two ≡ endingOf g → (vs ms rows : List ℕ)
+module _ (ended : Bool) (f : Form) {text areas : List ℕ} (symbols : List ℕ) {g : Progress} (r : Ready text areas g) where
+  pub second-none : not (g .on) ≡ true → {two : Paired} → two ≡ endingOf g → (vs ms rows : List ℕ)
       → SecondIs ended f text areas symbols g vs ms rows two vs ms rows
   unfolding onwardFrom
   second-none h e vs ms rows =
@@ -403,7 +397,7 @@ module _ (ended : Bool) (f : Form) {text areas : List ℕ} (symbols : List ℕ) 
       rw e (record { grouped = record { says = sym (b ∙ onward-end f T g (take (g .positions) vs) (take (g .positions) ms) rows); few = few-end areas (g .areas) (g .standing) (g .lines) (g .stop) (r .sound) } })
 
   -- over the first positions of two images, which come back with what stands behind them
-  pub second-some : not (g .on) ≡ false → (vs ms : List ℕ) → g .positions ≤ length vs → g .positions ≤ length ms → {rows vs′ ms′ rows′ : List ℕ} {two : Two}
+  pub second-some : not (g .on) ≡ false → (vs ms : List ℕ) → g .positions ≤ length vs → g .positions ≤ length ms → {rows vs′ ms′ rows′ : List ℕ} {two : Paired}
       → GroupedTwo (onwardAt ended f text areas symbols g (take (g .positions) vs) (take (g .positions) ms) rows) two vs′ ms′ rows′
       → length vs′ ≡ length (take (g .positions) vs) → length ms′ ≡ length (take (g .positions) ms)
       → SecondIs ended f text areas symbols g vs ms rows two (vs′ ++ drop (g .positions) vs) (ms′ ++ drop (g .positions) ms) rows′

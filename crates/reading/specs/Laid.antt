@@ -24,25 +24,18 @@ use Rattle.homes.specs.Home.{noHome}
 use Rattle.reading.specs.Answer.{told, toldCounts}
 use Rattle.tables.specs.GroupOne.{Hold}
 use Rattle.tables.specs.Sizes.{SizesAre}
+use Rattle.planning.specs.Plan.{startingOf}
 use Rattle.reading.specs.Onward.{Ended, GroupedTwo, endsOf, onward}
 use Rattle.reading.specs.declared.Answer as code
 use Rattle.reading.specs.declared.Answer.the-variants.{Refusal}
 use Rattle.reading.specs.declared.Counts.{Counts}
 use Rattle.tables.specs.declared.sizes.Sizes.{Sizes}
 use Rattle.tables.specs.declared.group.Found.{Found}
-use Rattle.reading.specs.declared.plan.Standing.{Standing}
-use Rattle.reading.specs.declared.plan.Standing.the-variants.{Made, Kept}
-use Rattle.reading.specs.declared.plan.Going.{Going}
-use Rattle.reading.specs.declared.plan.Two.{Two}
-use Rattle.reading.specs.declared.plan.Two.the-variants.{All, Rejected}
-
--- group two before its first pair
-abbrev pub goingAt : Found → (positions : ℕ) → Bool → Standing → Going
-goingAt d n on s =
-    record { areas = d .areas; symbols = d .symbols; positions = n; next = d .next; stop = d .stop; lines = 0; on = on; standing = s; home = noHome (d .areas) }
-
-abbrev pub startingOf : Found → (total : ℕ) → Going
-startingOf d z = pick (ltb 65536 z) (goingAt d 0 (d .more) (Kept 9 0)) (goingAt d z (d .more) (Made 0))
+use Rattle.planning.specs.declared.state.Standing.{Standing}
+use Rattle.planning.specs.declared.state.Standing.the-variants.{Made, Kept}
+use Rattle.planning.specs.declared.state.Progress.{Progress}
+use Rattle.planning.specs.declared.state.Paired.{Paired}
+use Rattle.planning.specs.declared.state.Paired.the-variants.{All, Rejected}
 
 -- what it begins with: the text and the tables within their bounds, and the kept areas' sizes
 pub record Begun (text xs : List ℕ) (d : Found) (s : Sizes) : Type 0 where
@@ -61,12 +54,12 @@ pub record Blank (n : ℕ) (vs : List ℕ) : Type 0 where
 abbrev pub pairsFrom : Bool → Form → List ℕ → (next : ℕ) → (more : Bool) → List (Taken the.Pair)
 pairsFrom ended f text next more = pick more (pairsAt ended f text next) []
 
-unfoldable pub onwardFrom : Bool → Form → (text areas symbols : List ℕ) → Going → (vs ms rows : List ℕ) → Outcome Ended
+unfoldable pub onwardFrom : Bool → Form → (text areas symbols : List ℕ) → Progress → (vs ms rows : List ℕ) → Outcome Ended
 onwardFrom ended f text areas symbols g vs ms rows =
     onward f (tablesIn areas (g .areas) symbols (g .symbols)) (pairsFrom ended f text (g .next) (g .on)) g vs ms rows
 
 -- group two over the first positions of two images
-pub record SecondIs (ended : Bool) (f : Form) (text areas symbols : List ℕ) (g : Going) (vs ms rows : List ℕ) (r : Two) (vs′ ms′ rows′ : List ℕ) : Type 0 where
+pub record SecondIs (ended : Bool) (f : Form) (text areas symbols : List ℕ) (g : Progress) (vs ms rows : List ℕ) (r : Paired) (vs′ ms′ rows′ : List ℕ) : Type 0 where
   pub grouped : GroupedTwo (onwardFrom ended f text areas symbols g (take (g .positions) vs) (take (g .positions) ms) rows) r (take (g .positions) vs′) (take (g .positions) ms′) rows′
 
 -- what the records give, and where they end
@@ -139,7 +132,7 @@ pub record HeaderOnly (ended : Bool) (n next : ℕ) (r : code.Answer) : Type 0 w
   pub header-is : told r ≡ pick ended (paper.refusal 4 0) (paper.accepted (record { areas = 0; symbols = 0; lines = 0; kept = 0; positions = 0; fixups = 0 }) (verdictAt n next))
 
 -- a refusal of group two
-abbrev pub answerTwo : Two → code.Answer
+abbrev pub answerTwo : Paired → code.Answer
 answerTwo (Rejected n p) = Refusal n p
 answerTwo (All n e k) = Refusal 0 0
 

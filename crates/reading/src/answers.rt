@@ -4,7 +4,7 @@ ghost use Rattle.reading.specs.Laid.{countsFrom, AcceptedIs, answerTwo};
 use crate::Answer;
 use crate::Counts;
 use crate::Verdict;
-use crate::plan::Two;
+use planning::Paired;
 use tables::Found;
 use tables::Sizes;
 
@@ -41,15 +41,15 @@ pub(crate) fn accept(counts: Counts, n: usize, stop: usize) -> Answer
 }
 
 // The refusal of group two.
-pub(crate) fn refuse_two(two: Two) -> Answer
+pub(crate) fn refuse_two(two: Paired) -> Answer
     ensures { λ r. ⌜ r ≡ answerTwo two ⌝ }
 {
     match two {
-        Two::Rejected { number, at } => Answer::Refusal {
+        Paired::Rejected { number, at } => Answer::Refusal {
             number: number,
             place: at,
         },
-        Two::All {
+        Paired::All {
             lines: _,
             stop: _,
             fixups: _,

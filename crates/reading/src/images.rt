@@ -2,18 +2,19 @@
 ghost use Prim.Native.Nat.{_≤_};
 ghost use lib.ListN.{length};
 ghost use Rattle.text.specs.Told.{formOf};
+ghost use Rattle.planning.specs.Plan.{startingOf};
 ghost use Rattle.reading.specs.Answer.{held};
 ghost use Rattle.way_in.specs.WayIn.{Rooms};
-ghost use Rattle.reading.specs.Laid.{startingOf, Begun, Blank, RestIs};
+ghost use Rattle.reading.specs.Laid.{Begun, Blank, RestIs};
 use crate::Answer;
 use crate::answers::accept;
 use crate::answers::counts_of;
 use crate::answers::refuse_two;
-use crate::plan::Two;
 use crate::rows_out::lay_images;
 use crate::rows_out::lay_tables;
 use crate::second::second_over;
-use crate::second::starting;
+use planning::Paired;
+use planning::starting;
 use tables::Found;
 use tables::Sizes;
 use tables::sizes_of;
@@ -42,7 +43,7 @@ fn over_images(
     let start = starting(found, sizes.total);
     let mut rows = [0u32; 9216];
     let two = second_over(t, start, form, ended, xs, ys, vs, ms, &mut rows);
-    let Two::All {
+    let Paired::All {
         lines,
         stop,
         fixups: k,
