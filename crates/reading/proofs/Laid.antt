@@ -22,17 +22,18 @@ use Rattle.format.specs.Reading as paper
 use Rattle.format.specs.Held.{Held}
 use Rattle.laws.specs.Places.{recordsAt, pairsAt}
 use Rattle.laws.specs.Rows.{from, areasIn, tablesIn, fixupRow, fixupsIn, stateOf}
-use Rattle.place.specs.Group.{areasFor, roomFor, Regrouped}
+use Rattle.place.specs.Group.{areasFor}
+use Rattle.layout.specs.Out.{TablesOut, ImagesOut}
+use Rattle.layout.proofs.Laws.{fixups-laid, areas-laid, symbols-laid}
 use Rattle.homes.specs.Home.{noHome, homeAt}
 use Rattle.homes.proofs.Laws.{home-past}
-use Rattle.place.specs.declared.group.Grouped as place
 use Rattle.text.proofs.Laws.Tests.{was-no, was-yes}
 use Rattle.reading.specs.Answer.{toldCounts, held}
 use Rattle.way_in.specs.WayIn.{Rooms}
 use Rattle.tables.specs.GroupOne.{Hold, Read, Refuses, Grouped}
 use Rattle.planning.specs.Plan.{endingOf, goingAt, startingOf}
 use Rattle.reading.specs.Onward.{Ended, endsOf, onward, onwardAt, toldTwo, GroupedTwo, Ready}
-use Rattle.reading.specs.Laid.{Begun, Blank, pairsFrom, onwardFrom, SecondIs, Whole, wholeOf, wholeAt, wholeLines, verdictAt, Laid, TablesOut, ImagesOut, countsFrom, AcceptedIs, HeaderOnly, answerTwo, RestIs}
+use Rattle.reading.specs.Laid.{Begun, Blank, pairsFrom, onwardFrom, SecondIs, Whole, wholeOf, wholeAt, wholeLines, verdictAt, Laid, countsFrom, AcceptedIs, HeaderOnly, answerTwo, RestIs}
 use Rattle.reading.specs.declared.Answer as code
 use Rattle.reading.specs.declared.Answer.the-variants.{Refusal, Accepted}
 use Rattle.reading.specs.declared.Verdict.the-variants.{Finished, Stopped}
@@ -75,20 +76,6 @@ two-all e = rw e
 pub ruleset answers = (needs, accept-finished, accept-stopped, header-refused, header-accepted, two-rejected, two-all)
 
 -- ------------------------------------------------------------------ rows out
-
-pub fixups-out : {k n : ℕ} {rows out out′ : List ℕ} {r : place.Grouped} → Regrouped k n rows out r out′ → 9 * k ≤ length rows → 9 * k ≤ length out → out′ ≡ over (areasFor n 0 (fixupsIn rows k)) out
-unfolding roomFor
-fixups-out {k} {n} {rows} {out} w h i = rw (le-leb (9 * k) (length rows) h, le-leb (9 * k) (length out) i) at (w .stored)
-
-pub tables-out : {c : Counts} {xs ys areas symbols areas′ symbols′ : List ℕ} → areas′ ≡ sets areas 0 (take (6 * c .areas) xs) → symbols′ ≡ sets symbols 0 (take (5 * c .symbols) ys)
-    → TablesOut c xs ys areas symbols areas′ symbols′
-tables-out a b = record { of-areas = a; of-symbols = b }
-
-pub images-out : {c : Counts} {vs ms rows values masks fixups values′ masks′ fixups′ : List ℕ} → values′ ≡ sets values 0 (take (c .positions) vs) → masks′ ≡ sets masks 0 (take (c .positions) ms)
-    → fixups′ ≡ over (areasFor (c .kept) 0 (fixupsIn rows (c .fixups))) fixups → ImagesOut c vs ms rows values masks fixups values′ masks′ fixups′
-images-out a b c = record { of-values = a; of-masks = b; of-fixups = c }
-
-pub ruleset outs = (needs, fixups-out, tables-out, images-out)
 
 -- rows laid over a buffer, and rows taken out of an array
 over-is : (rows old : List ℕ) → length rows ≤ length old → sets old 0 rows ≡ over rows old
@@ -282,10 +269,11 @@ module _ {ended : Bool} {f : Form} {text : List ℕ} (d : Found) {xs ys : List �
 
     pub rest-done : {c : Counts} → c ≡ countsFrom d s lines k → {areas symbols values masks fixups areas′ symbols′ values′ masks′ fixups′ : List ℕ}
         → Rooms (length areas) (length symbols) (length values) (length masks) (length fixups)
-        → TablesOut c xs ys areas symbols areas′ symbols′ → ImagesOut c vs ms rows values masks fixups values′ masks′ fixups′ → {r : code.Answer} → AcceptedIs c (length text) stop r
+        → length rows ≡ length rows₀ → length rows₀ ≡ 9216
+        → TablesOut (d .areas) (d .symbols) xs ys areas symbols areas′ symbols′ → ImagesOut (s .total) k (s .kept) vs ms rows values masks fixups values′ masks′ fixups′ → {r : code.Answer} → AcceptedIs c (length text) stop r
         → RestIs ended f text d xs ys (held areas symbols values masks fixups) r (held areas′ symbols′ values′ masks′ fixups′)
     unfolding wholeFrom paper.countsOf paper.fixupsOf areasFor stateOf fixupsIn tablesIn
-    rest-done {c} i {areas} {symbols} {values} {masks} {fixups} {areas′} {symbols′} {values′} {masks′} {fixups′} rooms a m {r} b = record { laid = lay }
+    rest-done {c} i {areas} {symbols} {values} {masks} {fixups} {areas′} {symbols′} {values′} {masks′} {fixups′} rooms lr lz a m {r} b = record { laid = lay }
       where
         lay : (t : Tables) (xs₀ ys₀ : List ℕ) → length xs₀ ≡ 384 → length ys₀ ≡ 5120 → Hold t xs₀ ys₀ xs ys (d .areas) (d .symbols)
             → Laid (length text) (wholeAt f t (pairsFrom ended f text (d .next) (d .more)) (d .stop)) (held areas symbols values masks fixups) r (held areas′ symbols′ values′ masks′ fixups′)
@@ -297,11 +285,11 @@ module _ {ended : Bool} {f : Form} {text : List ℕ} (d : Found) {xs ys : List �
             λ j. record { areas = k₀ .area-count j; symbols = k₀ .symbol-count j; lines = lines; kept = kept j; positions = s .total; fixups = sym (rows-counted rows 0 k) j } in
             let la = flat-length areaNumbers 6 six-numbers (t .areas) in
             let ls = flat-length symbolNumbers 5 five-numbers (t .symbols) in
-            let ta = rw i at (a .of-areas) in
-            let ts = rw i at (a .of-symbols) in
-            let iv : values′ ≡ sets values 0 (take (s .total) vs) = rw i at (m .of-values) in
-            let im : masks′ ≡ sets masks 0 (take (s .total) ms) = rw i at (m .of-masks) in
-            let fx : fixups′ ≡ over (areasFor (s .kept) 0 (fixupsIn rows k)) fixups = rw i at (m .of-fixups) in
+            let ta = areas-laid a (u .areas-low) in
+            let ts = symbols-laid a (u .symbols-low) in
+            let iv : values′ ≡ sets values 0 (take (s .total) vs) = m .of-values in
+            let im : masks′ ≡ sets masks 0 (take (s .total) ms) = m .of-masks in
+            let fx : fixups′ ≡ over (areasFor (s .kept) 0 (fixupsIn rows k)) fixups = fixups-laid (m .of-fixups) (rest-rows lr lz) (rest-out rooms) (u .sizes .kept-low) in
             subst (λ (x : Outcome Whole). Laid (length text) x (held areas symbols values masks fixups) r (held areas′ symbols′ values′ masks′ fixups′)) (sym o)
             (record {
               says = b .accepts ∙ ap (λ (x : paper.Counts). paper.accepted x (verdictAt (length text) stop)) (ap toldCounts i ∙ counts);
@@ -312,22 +300,7 @@ module _ {ended : Bool} {f : Form} {text : List ℕ} (d : Found) {xs ys : List �
               fixups = fx ∙ ap (λ (n : ℕ). over (areasFor n 0 (fixupsIn rows k)) fixups) kept;
             })
 
--- what is asked of the counts
-module _ {c : Counts} (d : Found) {s : Sizes} {lines k : ℕ} (e : c ≡ countsFrom d s lines k) where
-  module _ {text xs : List ℕ} (u : Begun text xs d s) where
-    pub counts-areas : c .areas ≤ 64
-    counts-areas = rw e (u .areas-low)
-
-    pub counts-symbols : c .symbols ≤ 1024
-    counts-symbols = rw e (u .symbols-low)
-
-    pub counts-kept : c .kept ≤ 64
-    counts-kept = rw e (u .sizes .kept-low)
-
-  pub counts-fixups : {n : ℕ} → 9 * k ≤ n → 9 * c .fixups ≤ n
-  counts-fixups h = rw e h
-
-pub ruleset rests = (needs, zeros-9216, fresh-rows, start-ready, start-short, start-long, rest-refused, rest-rows, rest-out, rest-done, counts-areas, counts-symbols, counts-kept, counts-fixups)
+pub ruleset rests = (needs, zeros-9216, fresh-rows, start-ready, start-short, start-long, rest-refused, rest-done)
 
 -- ------------------------------------------------------------------ `read_lines`
 

@@ -110,16 +110,7 @@ pub record Laid (n : ℕ) (o : Outcome Whole) (old : Held) (r : code.Answer) (ne
   pub masks : new .masks ≡ over (layOf n o .masks) (old .masks)
   pub fixups : new .fixups ≡ over (layOf n o .fixups) (old .fixups)
 
--- rows laid over the lent buffers
-pub record TablesOut (c : Counts) (xs ys areas symbols areas′ symbols′ : List ℕ) : Type 0 where
-  pub of-areas : areas′ ≡ sets areas 0 (take (6 * c .areas) xs)
-  pub of-symbols : symbols′ ≡ sets symbols 0 (take (5 * c .symbols) ys)
-
-pub record ImagesOut (c : Counts) (vs ms rows values masks fixups values′ masks′ fixups′ : List ℕ) : Type 0 where
-  pub of-values : values′ ≡ sets values 0 (take (c .positions) vs)
-  pub of-masks : masks′ ≡ sets masks 0 (take (c .positions) ms)
-  pub of-fixups : fixups′ ≡ over (areasFor (c .kept) 0 (fixupsIn rows (c .fixups))) fixups
-
+-- how much there is
 abbrev pub countsFrom : Found → Sizes → (lines fixups : ℕ) → Counts
 countsFrom d z n k = record { areas = d .areas; symbols = d .symbols; lines = n; kept = z .kept; positions = z .total; fixups = k }
 

@@ -10,9 +10,9 @@ use crate::Answer;
 use crate::answers::accept;
 use crate::answers::counts_of;
 use crate::answers::refuse_two;
-use crate::rows_out::lay_images;
-use crate::rows_out::lay_tables;
 use crate::second::second_over;
+use layout::lay_images;
+use layout::lay_tables;
 use planning::Paired;
 use planning::starting;
 use tables::Found;
@@ -52,8 +52,18 @@ fn over_images(
         return refuse_two(two);
     };
     let counts = counts_of(found, sizes, lines, k);
-    lay_tables(counts, xs, ys, areas, symbols);
-    lay_images(counts, vs, ms, &rows, values, masks, fixups);
+    lay_tables(found.areas, found.symbols, xs, ys, areas, symbols);
+    lay_images(
+        sizes.total,
+        k,
+        sizes.kept,
+        vs,
+        ms,
+        &rows,
+        values,
+        masks,
+        fixups,
+    );
     accept(counts, t.len(), stop)
 }
 

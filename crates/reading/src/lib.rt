@@ -7,7 +7,6 @@ mod answers;
 mod both;
 mod group_two;
 mod images;
-mod rows_out;
 mod second;
 mod turn;
 mod whole;
