@@ -5,8 +5,8 @@ ghost use Rattle.numbers.specs.Many.{BytesRead, BytesBegun};
 ghost use Rattle.numbers.specs.Short.{Reach};
 use crate::Num;
 use crate::Run;
+use crate::hex::hex_of;
 use crate::hex::spaced_byte;
-use crate::hex::two_capitals;
 use crate::numbers::any_next;
 
 // A byte into its place of what was lent; past the end nothing is written.
@@ -49,14 +49,18 @@ fn begin_bytes(t: &[u8], at: usize, radix: u8, out: &mut [u8; 256]) -> Run
     let mut n = 0;
     let mut p = at;
     while p < last {
-        let v = two_capitals(t[p + 1], t[p + 2]);
-        if 255 < v {
+        let d = hex_of(t[p + 1]);
+        let e = hex_of(t[p + 2]);
+        if 15 < d {
+            return Run { count: n, end: p };
+        }
+        if 15 < e {
             return Run { count: n, end: p };
         }
         if t[p + 3] != 32 {
             return Run { count: n, end: p };
         }
-        out[n] = v as u8;
+        out[n] = (d * 16 + e) as u8;
         n += 1;
         p += 3;
     }

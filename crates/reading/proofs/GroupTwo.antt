@@ -6,9 +6,8 @@ use mathlib.Core.Bool.{Bool, true, false}
 use mathlib.Core.List.{List, [], _∷_, _++_, map, append-assoc}
 use mathlib.Core.Option.{some}
 use native.Mathlib.Omega.{arith}
-use native.Mathlib.Nat.{zero-add}
 use lib.ListN.{length, take, drop, length-append, length-map, replicate, length-replicate}
-use lib.Seq.{sets, sets-eq, length-sets, take-append-seam, getD-at}
+use lib.Seq.{sets, length-sets, take-append-seam, getD-at}
 use lib.Dec.{ltb}
 use borrow.Author.Needs.{needs}
 use borrow.Author.Tests.{lt-ltb, le-ltb, le-leb, lt-leb, ltb-true, ltb-false}
@@ -27,91 +26,37 @@ use Rattle.header.specs.Told.{formOf, moreOf}
 use Rattle.header.specs.declared.Form as text
 use Rattle.header.specs.declared.Width.{Width}
 use Rattle.header.specs.declared.Width.the-variants as wide
-use Rattle.pair_line.specs.Pairs.{Rows}
-use Rattle.place.specs.Columns.{fragmentAt, fragmentsIn}
+use Rattle.pair_line.specs.Pairs.{Rows, modes, entries, indexes}
+use Rattle.sites.specs.Columns.{fragmentAt, fragmentsIn}
 use Rattle.place.specs.Pair.{contentOf, pairOf, pairIn, fits as fitsIn, told, usedNow, PairPlaced}
 use Rattle.homes.specs.Home.{homeAt}
 use Rattle.homes.specs.declared.Home.{Home}
 use Rattle.homes.proofs.Use.{home-own}
 use Rattle.place.proofs.Use.{Fit, fits-when, placed-when}
-use Rattle.place.specs.declared.pair.Filled.{Filled}
-use Rattle.place.specs.declared.pair.Line.{Line}
+use Rattle.sites.specs.declared.Filled.{Filled}
+use Rattle.sites.specs.declared.Line.{Line}
 use Rattle.place.specs.declared.pair.Placed as place
 use Rattle.place.specs.declared.pair.Placed.the-variants.{Done as Through, Stopped, Misfit}
-use Rattle.reading.specs.PairLines.{AsLong, PlacedIs, BodyIs, stepTo, StepOf, StepSays, PairStepIs}
-use Rattle.reading.specs.Onward.{endsOf, Ended, stands, onward, onwardAt, toldTwo, FewIn, GroupedTwo, endingWith, endingOf, afterOf, steppedOf, standingIn, overOf, placedOf, lineFor, planOf, turnOf, twoOf, standingOf, filledOf, Sound, Ready, Columns, PlaceReady, Advances, GoesOn, TurnSays, TurnIs}
-use Rattle.reading.specs.declared.pair.Body.{Body}
-use Rattle.reading.specs.declared.pair.Body.the-variants.{Skipped, Placed}
-use Rattle.reading.specs.declared.pair.PairStep.{PairStep}
-use Rattle.reading.specs.declared.pair.PairStep.the-variants.{Ends, Takes}
-use Rattle.reading.specs.declared.plan.Standing.{Standing}
-use Rattle.reading.specs.declared.plan.Standing.the-variants.{Made, Kept}
-use Rattle.reading.specs.declared.plan.Going.{Going}
-use Rattle.reading.specs.declared.plan.Two.{Two}
-use Rattle.reading.specs.declared.plan.Two.the-variants.{All, Rejected}
-use Rattle.reading.specs.declared.plan.Turn.{Turn}
-use Rattle.reading.specs.declared.plan.Turn.the-variants.{Goes, Done}
-use Rattle.reading.specs.declared.plan.Plan.{Plan}
-use Rattle.reading.specs.declared.plan.Plan.the-variants.{Leave, Place}
+use Rattle.steps.proofs.Stored.{laid}
+use Rattle.steps.specs.PairLines.{LeftAt, bytesAt, fragmentsAt, PlacedIs, BodyIs, stepTo, StepOf, StepSays, PairStepIs}
+use Rattle.planning.specs.Plan.{endingWith, endingOf, afterOf, steppedOf, standingIn, oneMore, refusedPair, lineFor, planOf, turnOf, twoOf}
+use Rattle.planning.proofs.Plans.{more-counted}
+use Rattle.reading.specs.Onward.{endsOf, Ended, stands, onward, onwardAt, toldTwo, FewIn, GroupedTwo, standingOf, filledOf, Sound, Ready, Columns, PlaceReady, Advances, GoesOn, TurnSays, TurnIs}
+use Rattle.steps.specs.declared.pair.Body.{Body}
+use Rattle.steps.specs.declared.pair.Body.the-variants.{Skipped, Placed}
+use Rattle.steps.specs.declared.pair.PairStep.{PairStep}
+use Rattle.steps.specs.declared.pair.PairStep.the-variants.{Ends, Takes}
+use Rattle.planning.specs.declared.state.Standing.{Standing}
+use Rattle.planning.specs.declared.state.Standing.the-variants.{Made, Kept}
+use Rattle.planning.specs.declared.state.Progress.{Progress}
+use Rattle.planning.specs.declared.state.Paired.{Paired}
+use Rattle.planning.specs.declared.state.Paired.the-variants.{All, Rejected}
+use Rattle.planning.specs.declared.state.Turn.{Turn}
+use Rattle.planning.specs.declared.state.Turn.the-variants.{Goes, Done}
+use Rattle.planning.specs.declared.state.Plan.{Plan}
+use Rattle.planning.specs.declared.state.Plan.the-variants.{Leave, Place}
 
 -- ------------------------------------------------------------------ small answers
-
-module _ (g : Going) where
-  pub ends-made : {k : ℕ} → g .standing ≡ Made k → All (g .lines) (g .stop) k ≡ endingOf g
-  ends-made e = rw e
-
-  pub ends-kept : {n p : ℕ} → g .standing ≡ Kept n p → Rejected n p ≡ endingOf g
-  ends-kept e = rw e
-
-  pub after-on : g .on ≡ true → Goes g ≡ afterOf g
-  after-on e = rw e
-
-  pub after-off : g .on ≡ false → {two : Two} → two ≡ endingOf g → Done two ≡ afterOf g
-  after-off e i = rw (e, i)
-
-pub wide-two : {w : Width} → w ≡ wide.Two → _≡_ {A = ℕ} 2 (suc (moreOf w))
-wide-two e = rw e
-
-pub wide-three : {w : Width} → w ≡ wide.Three → _≡_ {A = ℕ} 3 (suc (moreOf w))
-wide-three e = rw e
-
-pub wide-four : {w : Width} → w ≡ wide.Four → _≡_ {A = ℕ} 4 (suc (moreOf w))
-wide-four e = rw e
-
-module _ (l : Line) (g : Going) (p : ℕ) where
-  pub placed-7 : 256 < l .bytes → {r : Plan} → r ≡ overOf 7 p → r ≡ placedOf l g p
-  placed-7 h e = rw (e, lt-ltb 256 (l .bytes) h)
-
-  module _ (h : l .bytes ≤ 256) where
-    pub placed-8 : 64 < l .fragments → {r : Plan} → r ≡ overOf 8 p → r ≡ placedOf l g p
-    placed-8 i e = rw (e, le-ltb 256 (l .bytes) h, lt-ltb 64 (l .fragments) i)
-
-    pub placed-fits : l .fragments ≤ 64 → Place l g ≡ placedOf l g p
-    placed-fits i = rw (le-ltb 256 (l .bytes) h, le-ltb 64 (l .fragments) i)
-
-module _ {st : PairStep} (g : Going) (f : text.Form) where
-  pub plan-ends : st ≡ Ends → {two : Two} → two ≡ endingOf g → Leave (Done two) ≡ planOf st g f
-  plan-ends e i = rw (e, i)
-
-  module _ {body : Body} {end next : ℕ} {on : Bool} (e : st ≡ Takes body end next on) where
-    pub plan-skips : body ≡ Skipped → {g′ : Going} {u : Turn} → g′ ≡ steppedOf g (g .lines) end next on → u ≡ afterOf g′ → Leave u ≡ planOf st g f
-    plan-skips b i j = rw (e, b, j, i)
-
-    pub plan-places : {a n ar k : ℕ} → body ≡ Placed a n ar k → {w area : ℕ} {g′ : Going} {r : Plan} → w ≡ suc (moreOf (f .width)) → area ≡ ar → g′ ≡ steppedOf g (g .lines + 1) end next on
-        → r ≡ placedOf (record { big = f .big; width = w; place = g .next; address = a; bytes = n; fragments = k; area = area }) g′ (g .next) → r ≡ planOf st g f
-    plan-places b h i j x = rw (e, b, x, j, h, i)
-
-pub turn-of-leave : {p : Plan} {u : Turn} → p ≡ Leave u → u ≡ turnOf p
-turn-of-leave e = rw e
-
-pub turn-of-place : {p : Plan} {l : Line} {g : Going} → p ≡ Place l g → {u : Turn} → u ≡ afterOf g → u ≡ turnOf p
-turn-of-place e i = rw (e, i)
-
-pub two-of-done : {u : Turn} {two : Two} → u ≡ Done two → two ≡ twoOf u
-two-of-done e = rw e
-
-pub two-of-goes : {u : Turn} {g : Going} → u ≡ Goes g → {two : Two} → two ≡ endingOf g → two ≡ twoOf u
-two-of-goes e i = rw (e, i)
 
 pub stands-through : {r : place.Placed} {k : ℕ} → r ≡ Through k → Made k ≡ standingOf r
 stands-through e = rw e
@@ -122,7 +67,7 @@ stands-stopped e = rw e
 pub stands-misfit : {r : place.Placed} → r ≡ Misfit → Kept 0 0 ≡ standingOf r
 stands-misfit e = rw e
 
-pub ruleset small = (needs, ends-made, ends-kept, after-on, after-off, wide-two, wide-three, wide-four, placed-7, placed-8, placed-fits, plan-ends, plan-skips, plan-places, turn-of-leave, turn-of-place, two-of-done, two-of-goes, stands-through, stands-stopped, stands-misfit)
+pub ruleset small = (needs, stands-through, stands-stopped, stands-misfit)
 
 -- ------------------------------------------------------------------ the columns of a pair hold its fragments
 
@@ -148,9 +93,6 @@ module _ (ms₀ es₀ xs₀ : List ℕ) where
       (simp length-append (omega arith)) (simp length-append (omega arith)) (simp length-append (omega arith)))) in
       λ j. one j ∷ more j
 
-pub laid : (xs room : List ℕ) → length xs ≤ length room → sets room 0 xs ≡ xs ++ drop (length xs) room
-laid xs room h = let z : 0 + length xs ≡ length xs = zero-add (length xs) in sets-eq xs room 0 (omega arith) ∙ rw z
-
 pub fragments-in : (fs : List the.Fragment) {ms es xs ms′ es′ xs′ : List ℕ} → length fs ≤ length ms → length fs ≤ length es → length fs ≤ length xs
     → Rows fs ms es xs ms′ es′ xs′ → fragmentsIn ms′ es′ xs′ (length fs) ≡ fs
 unfolding fragmentsIn
@@ -174,14 +116,14 @@ told-stands (Through k) vs ms rows o e = cc
 told-stands (Stopped n p) vs ms rows o e = cc
 told-stands Misfit vs ms rows o e = absurd (let z : _≡_ {A = ℕ} 0 1 = cc in omega arith)
 
-module _ {l : Line} {g : Going} {table bytes areas rows : List ℕ} (w : PlaceReady l g table bytes areas rows) (ms es xs symbols vs fs : List ℕ) where
-  pub body-kept : {n p : ℕ} → g .standing ≡ Kept n p → {g′ : Going} {u : Turn} → g′ ≡ standingIn g (g .home) (g .standing) → u ≡ afterOf g′
+module _ {l : Line} {g : Progress} {table bytes areas rows : List ℕ} (w : PlaceReady l g table bytes areas rows) (ms es xs symbols vs fs : List ℕ) where
+  pub body-kept : {n p : ℕ} → g .standing ≡ Kept n p → {g′ : Progress} {u : Turn} → g′ ≡ standingIn g (g .home) (g .standing) → u ≡ afterOf g′
       → Advances l g bytes ms es xs areas symbols vs fs rows u vs fs rows
   body-kept e i j = record { standing = g .standing; home = g .home; answered = j ∙ ap afterOf i; says = λ radix end. rw e; sound = w .sound; homed = w .homed }
 
   pub body-made : {k : ℕ} → g .standing ≡ Made k → {q : Filled} → q ≡ filledOf g k → {h : Home} → h ≡ homeAt areas (g .areas) (l .area) → {r : place.Placed} {vs′ fs′ rows′ : List ℕ}
       → PairPlaced (fitsIn table l h bytes ms q rows) (pairIn l h bytes ms es xs areas symbols q (stateOf vs fs rows (q .fixups))) vs fs rows r vs′ fs′ rows′
-      → {s : Standing} {g′ : Going} {u : Turn} → s ≡ standingOf r → g′ ≡ standingIn g h s → u ≡ afterOf g′
+      → {s : Standing} {g′ : Progress} {u : Turn} → s ≡ standingOf r → g′ ≡ standingIn g h s → u ≡ afterOf g′
       → Advances l g bytes ms es xs areas symbols vs fs rows u vs′ fs′ rows′
   unfolding pairOf
   body-made {k} e {q} i {h} eh {r} {vs′} {fs′} {rows′} d {s} j n u =
@@ -215,10 +157,10 @@ module _ {l : Line} {g : Going} {table bytes areas rows : List ℕ} (w : PlaceRe
       go Misfit a b = tt
 
 -- `home_for`
-pub home-last : (areas : List ℕ) (g : Going) {i : ℕ} → g .home ≡ homeAt areas (g .areas) (g .home .area) → g .home .area ≡ i → g .home ≡ homeAt areas (g .areas) i
+pub home-last : (areas : List ℕ) (g : Progress) {i : ℕ} → g .home ≡ homeAt areas (g .areas) (g .home .area) → g .home .area ≡ i → g .home ≡ homeAt areas (g .areas) i
 home-last areas g e j = e ∙ ap (homeAt areas (g .areas)) j
 
-pub ready-homed : {l : Line} {g : Going} {table bytes areas rows : List ℕ} → PlaceReady l g table bytes areas rows → g .home ≡ homeAt areas (g .areas) (g .home .area)
+pub ready-homed : {l : Line} {g : Progress} {table bytes areas rows : List ℕ} → PlaceReady l g table bytes areas rows → g .home ≡ homeAt areas (g .areas) (g .home .area)
 ready-homed w = w .homed
 
 pub ruleset bodies = (needs, body-kept, body-made, home-last, ready-homed)
@@ -235,7 +177,7 @@ and-fine (refused n p) = refl
 
 module _ (f : Form) (t : Tables) where
   -- one pair more
-  onward-step : (x : Taken the.Pair) (ps : List (Taken the.Pair)) (g : Going) (m next : ℕ) (on : Bool) (h : Home) (s : Standing) (vs ms rows vs′ ms′ rows′ : List ℕ) → fits (g .lines) x ≡ fine m
+  onward-step : (x : Taken the.Pair) (ps : List (Taken the.Pair)) (g : Progress) (m next : ℕ) (on : Bool) (h : Home) (s : Standing) (vs ms rows vs′ ms′ rows′ : List ℕ) → fits (g .lines) x ≡ fine m
       → stands s vs′ ms′ rows′ ≡ andThen (stands (g .standing) vs ms rows) (λ s. placePair f t s x)
       → onward f t (x ∷ ps) g vs ms rows ≡ onward f t ps (standingIn (steppedOf g m (x .end) next on) h s) vs′ ms′ rows′
   unfolding onward fold
@@ -245,12 +187,12 @@ module _ (f : Form) (t : Tables) where
       ∙ ap (λ (o : Outcome State). andThen o (λ s. fold (placePair f t) s ps)) (sym h)))
 
   -- a pair that does not fit
-  onward-over : (x : Taken the.Pair) (ps : List (Taken the.Pair)) (g : Going) (vs ms rows : List ℕ) (n p : ℕ) → fits (g .lines) x ≡ refused n p → onward f t (x ∷ ps) g vs ms rows ≡ refused n p
+  onward-over : (x : Taken the.Pair) (ps : List (Taken the.Pair)) (g : Progress) (vs ms rows : List ℕ) (n p : ℕ) → fits (g .lines) x ≡ refused n p → onward f t (x ∷ ps) g vs ms rows ≡ refused n p
   unfolding onward fold
   onward-over x ps g vs ms rows n p e = rw e
 
   -- no pair
-  pub onward-end : (g : Going) (vs ms rows : List ℕ) → onward f t [] g vs ms rows ≡ toldTwo (endingOf g) vs ms rows
+  pub onward-end : (g : Progress) (vs ms rows : List ℕ) → onward f t [] g vs ms rows ≡ toldTwo (endingOf g) vs ms rows
   unfolding onward fold
   onward-end g vs ms rows = go (g .standing)
     where
@@ -276,7 +218,7 @@ module _ (ended : Bool) (f : Form) (text : List ℕ) (p : ℕ) where
       go false k = pairs-at ended f text p ∙ rw (← k)
 
 -- a turn that is over with the pair
-module _ (ended : Bool) (f : Form) (text areas symbols : List ℕ) (p : ℕ) {o : Outcome Ended} (vs ms rows : List ℕ) (g : Going) where
+module _ (ended : Bool) (f : Form) (text areas symbols : List ℕ) (p : ℕ) {o : Outcome Ended} (vs ms rows : List ℕ) (g : Progress) where
   after-is : (g .on ≡ true → Ready text areas g × (p < g .next)) → Sound areas (g .areas) (g .standing)
       → o ≡ onward f (tablesIn areas (g .areas) symbols (g .symbols)) (pick (g .on) (pairsAt ended f text (g .next)) []) g vs ms rows
       → TurnIs ended f text areas symbols p o (afterOf g) vs ms rows
@@ -324,7 +266,7 @@ module _ (q : the.Pair) (p end lines : ℕ) {a n ar k : ℕ} {b ms es xs b′ ms
         rw (w .is, le-leb (length (w .content .bytes)) 256 short, le-leb (length (w .relocation .fragments)) 64 i, z)
 
 -- the turn at a place
-module _ {ended : Bool} (f : text.Form) {text areas : List ℕ} (symbols : List ℕ) {g : Going} (ready : Ready text areas g) {st : PairStep} {b ms es xs b′ ms′ es′ xs′ : List ℕ}
+module _ {ended : Bool} (f : text.Form) {text areas : List ℕ} (symbols : List ℕ) {g : Progress} (ready : Ready text areas g) {st : PairStep} {b ms es xs b′ ms′ es′ xs′ : List ℕ}
     (v : PairStepIs ended (formOf f) text (g .next) st b ms es xs b′ ms′ es′ xs′) (vs fs rows : List ℕ) where
   at-here : (ps : List (Taken the.Pair)) → pairsAt ended (formOf f) text (g .next) ≡ ps
       → onwardAt ended (formOf f) text areas symbols g vs fs rows ≡ onward (formOf f) (tablesIn areas (g .areas) symbols (g .symbols)) ps g vs fs rows
@@ -372,7 +314,7 @@ module _ {ended : Bool} (f : text.Form) {text areas : List ℕ} (symbols : List 
       no c h = record { says = record { says = sym (at-here _ (at-takes ended (formOf f) text (g .next) y) ∙ onward-over (formOf f) t x (pick on (pairsAt ended (formOf f) text next) []) g vs fs rows c (g .next) h); few = tt } }
 
       go : (i j : Bool) → ltb 256 n ≡ i → ltb 64 k ≡ j
-          → pick i (overOf 7 (g .next)) (pick j (overOf 8 (g .next)) (Place (lineFor f (g .next) a n ar k) (steppedOf g (g .lines + 1) end next on))) ≡ Leave u
+          → pick i (refusedPair 7 (g .next)) (pick j (refusedPair 8 (g .next)) (Place (lineFor f (g .next) a n ar k) (steppedOf g (oneMore (g .lines)) end next on))) ≡ Leave u
           → TurnIs ended (formOf f) text areas symbols (g .next) (onwardAt ended (formOf f) text areas symbols g vs fs rows) u vs fs rows
       go true j p q h =
           let d : Done (Rejected 7 (g .next)) ≡ u = cc in
@@ -387,7 +329,7 @@ module _ {ended : Bool} (f : text.Form) {text areas : List ℕ} (symbols : List 
   turn-leaves e {u} i j = rw (j, i) (leaves st (v .says) u (sym e ∙ i))
 
 -- a plan to place: what was read
-pub record Planned (st : PairStep) (g : Going) (f : text.Form) (l : Line) (g′ : Going) : Type 0 where
+pub record Planned (st : PairStep) (g : Progress) (f : text.Form) (l : Line) (g′ : Progress) : Type 0 where
   pub address : ℕ
   pub count : ℕ
   pub area : ℕ
@@ -401,13 +343,13 @@ pub record Planned (st : PairStep) (g : Going) (f : text.Form) (l : Line) (g′ 
   pub short : count ≤ 256
   pub few : fragments ≤ 64
 
-planned : (st : PairStep) (g : Going) (f : text.Form) (l : Line) (g′ : Going) → planOf st g f ≡ Place l g′ → Planned st g f l g′
-planned Ends g f l g′ e = absurd (let z : _≡_ {A = ℕ} 0 1 = cc in omega arith)
-planned (Takes Skipped end next on) g f l g′ e = absurd (let z : _≡_ {A = ℕ} 0 1 = cc in omega arith)
-planned (Takes (Placed a n ar k) end next on) g f l g′ e = go (ltb 256 n) (ltb 64 k) refl refl e
+planned : (st : PairStep) (g : Progress) (f : text.Form) (l : Line) (g′ : Progress) → g .lines ≤ 65536 → planOf st g f ≡ Place l g′ → Planned st g f l g′
+planned Ends g f l g′ low e = absurd (let z : _≡_ {A = ℕ} 0 1 = cc in omega arith)
+planned (Takes Skipped end next on) g f l g′ low e = absurd (let z : _≡_ {A = ℕ} 0 1 = cc in omega arith)
+planned (Takes (Placed a n ar k) end next on) g f l g′ low e = go (ltb 256 n) (ltb 64 k) refl refl (rw (← more-counted (g .lines) (omega arith)) at e)
   where
     go : (i j : Bool) → ltb 256 n ≡ i → ltb 64 k ≡ j
-        → pick i (overOf 7 (g .next)) (pick j (overOf 8 (g .next)) (Place (lineFor f (g .next) a n ar k) (steppedOf g (g .lines + 1) end next on))) ≡ Place l g′
+        → pick i (refusedPair 7 (g .next)) (pick j (refusedPair 8 (g .next)) (Place (lineFor f (g .next) a n ar k) (steppedOf g (g .lines + 1) end next on))) ≡ Place l g′
         → Planned (Takes (Placed a n ar k) end next on) g f l g′
     go true j p q h = absurd (let z : _≡_ {A = ℕ} 0 1 = cc in omega arith)
     go false true p q h = absurd (let z : _≡_ {A = ℕ} 0 1 = cc in omega arith)
@@ -437,10 +379,10 @@ zeros-256 = length-replicate {A = ℕ} 256 0
 zeros-64 : length {A = ℕ} (replicate 64 0) ≡ 64
 zeros-64 = length-replicate {A = ℕ} 64 0
 
-module _ {ended : Bool} (f : text.Form) {text areas : List ℕ} {g : Going} (ready : Ready text areas g) {st : PairStep} {b ms es xs b′ ms′ es′ xs′ : List ℕ}
-    (v : PairStepIs ended (formOf f) text (g .next) st b ms es xs b′ ms′ es′ xs′) {pl : Plan} (e : pl ≡ planOf st g f) {l : Line} {g′ : Going} (i : pl ≡ Place l g′) (z : Columns b ms es xs) where
+module _ {ended : Bool} (f : text.Form) {text areas : List ℕ} {g : Progress} (ready : Ready text areas g) {st : PairStep} {b ms es xs b′ ms′ es′ xs′ : List ℕ}
+    (v : PairStepIs ended (formOf f) text (g .next) st b ms es xs b′ ms′ es′ xs′) {pl : Plan} (e : pl ≡ planOf st g f) {l : Line} {g′ : Progress} (i : pl ≡ Place l g′) (z : Columns b ms es xs) (low : g .lines ≤ 65536) where
   plan : Planned st g f l g′
-  plan = planned st g f l g′ (sym e ∙ i)
+  plan = planned st g f l g′ low (sym e ∙ i)
 
   here : StepOf (pairAt ended (formOf f) text (g .next)) text (g .next) (Placed (plan .address) (plan .count) (plan .area) (plan .fragments)) (plan .end) (plan .next) (plan .on) b ms es xs b′ ms′ es′ xs′
   here = rw (plan .step) at (v .says)
@@ -452,7 +394,7 @@ module _ {ended : Bool} (f : text.Form) {text areas : List ℕ} {g : Going} (rea
   turn-ready {table} {rows} h j =
       let long : length b′ ≡ length b = rw (w .so .bytes) (length-sets b 0 (w .content .bytes)) in
       subst (λ (x : Line). PlaceReady x g′ table b′ areas rows) (plan .line)
-      (subst (λ (x : Going). PlaceReady (lineFor f (g .next) (plan .address) (plan .count) (plan .area) (plan .fragments)) x table b′ areas rows) (plan .going)
+      (subst (λ (x : Progress). PlaceReady (lineFor f (g .next) (plan .address) (plan .count) (plan .area) (plan .fragments)) x table b′ areas rows) (plan .going)
       (record {
         classes = h;
         address = width-low (f .width);
@@ -485,7 +427,7 @@ module _ {ended : Bool} (f : text.Form) {text areas : List ℕ} {g : Going} (rea
       let going = steppedOf g (g .lines + 1) (plan .end) (plan .next) (plan .on) in
       let a : Advances line going b′ ms′ es′ xs′ areas symbols vs fs rows r vs′ fs′ rows′ =
       subst (λ (x : Line). Advances x going b′ ms′ es′ xs′ areas symbols vs fs rows r vs′ fs′ rows′) (sym (plan .line))
-      (subst (λ (x : Going). Advances l x b′ ms′ es′ xs′ areas symbols vs fs rows r vs′ fs′ rows′) (sym (plan .going)) d) in
+      (subst (λ (x : Progress). Advances l x b′ ms′ es′ xs′ areas symbols vs fs rows r vs′ fs′ rows′) (sym (plan .going)) d) in
       let t = tablesIn areas (g .areas) symbols (g .symbols) in
       let x : Taken the.Pair = record { place = g .next; end = plan .end; body = here .pair } in
       let h : stands (a .standing) vs′ fs′ rows′ ≡ andThen (stands (g .standing) vs fs rows) (λ s. placePair (formOf f) t s x) =
@@ -498,10 +440,10 @@ module _ {ended : Bool} (f : text.Form) {text areas : List ℕ} {g : Going} (rea
       (fits-both (here .pair) (g .next) (plan .end) (g .lines) w (plan .short) (plan .few)) h))
 
 -- what a turn asks on the way
-pub ready-inside : {text areas : List ℕ} {g : Going} → Ready text areas g → g .next ≤ length text
+pub ready-inside : {text areas : List ℕ} {g : Progress} → Ready text areas g → g .next ≤ length text
 ready-inside w = w .inside
 
-pub ready-low : {text areas : List ℕ} {g : Going} → Ready text areas g → length text ≤ 65536 → g .lines ≤ 65536
+pub ready-low : {text areas : List ℕ} {g : Progress} → Ready text areas g → length text ≤ 65536 → g .lines ≤ 65536
 ready-low w h = omega (arith, w .low, w .inside)
 
 pub ruleset turns = (needs, ready-inside, ready-low, turn-leaves, turn-ready, turn-places)
@@ -510,24 +452,29 @@ pub ruleset turns = (needs, ready-inside, ready-low, turn-leaves, turn-ready, tu
 pub columns-start : Columns (replicate 256 0) (replicate 64 0) (replicate 64 0) (replicate 64 0)
 columns-start = record { of-bytes = zeros-256; of-modes = zeros-64; of-entries = zeros-64; of-indexes = zeros-64 }
 
-pub columns-then : {b ms es xs b′ ms′ es′ xs′ : List ℕ} → Columns b ms es xs → AsLong b ms es xs b′ ms′ es′ xs′ → Columns b′ ms′ es′ xs′
-columns-then w v = record { of-bytes = v .bytes ∙ w .of-bytes; of-modes = v .modes ∙ w .of-modes; of-entries = v .entries ∙ w .of-entries; of-indexes = v .indexes ∙ w .of-indexes }
+pub columns-then : (f : Form) (text : List ℕ) (p : ℕ) {b ms es xs b′ ms′ es′ xs′ : List ℕ} → Columns b ms es xs → LeftAt f text p b ms es xs b′ ms′ es′ xs′ → Columns b′ ms′ es′ xs′
+columns-then f text p {b} {ms} {es} {xs} w v = record {
+  of-bytes = rw (v .bytes) (length-sets b 0 (bytesAt f text p) ∙ w .of-bytes);
+  of-modes = rw (v .rows .of-modes) (length-sets ms 0 (modes (fragmentsAt f text p)) ∙ w .of-modes);
+  of-entries = rw (v .rows .of-entries) (length-sets es 0 (entries (fragmentsAt f text p)) ∙ w .of-entries);
+  of-indexes = rw (v .rows .of-indexes) (length-sets xs 0 (indexes (fragmentsAt f text p)) ∙ w .of-indexes);
+}
 
 pub ruleset lending = (needs, columns-start, columns-then)
 
 -- ------------------------------------------------------------------ the loop
 
-pub record Rounds (ended : Bool) (f : Form) (text areas symbols : List ℕ) (g₀ : Going) (vs₀ ms₀ rows₀ : List ℕ) (g : Going) (vs ms rows : List ℕ) : Type 0 where
+pub record Rounds (ended : Bool) (f : Form) (text areas symbols : List ℕ) (g₀ : Progress) (vs₀ ms₀ rows₀ : List ℕ) (g : Progress) (vs ms rows : List ℕ) : Type 0 where
   pub rest : onwardAt ended f text areas symbols g₀ vs₀ ms₀ rows₀ ≡ onwardAt ended f text areas symbols g vs ms rows
   pub ready : Ready text areas g
   pub values-long : length vs ≡ length vs₀
   pub masks-long : length ms ≡ length ms₀
   pub rows-long : length rows ≡ length rows₀
 
-pub round-start : (ended : Bool) (f : Form) (text areas symbols : List ℕ) (g : Going) (vs ms rows : List ℕ) → Ready text areas g → Rounds ended f text areas symbols g vs ms rows g vs ms rows
+pub round-start : (ended : Bool) (f : Form) (text areas symbols : List ℕ) (g : Progress) (vs ms rows : List ℕ) → Ready text areas g → Rounds ended f text areas symbols g vs ms rows g vs ms rows
 round-start ended f text areas symbols g vs ms rows w = record { rest = refl; ready = w; values-long = refl; masks-long = refl; rows-long = refl }
 
-module _ {ended : Bool} {f : Form} {text areas symbols : List ℕ} {g₀ : Going} {vs₀ ms₀ rows₀ : List ℕ} {g : Going} {vs ms rows : List ℕ}
+module _ {ended : Bool} {f : Form} {text areas symbols : List ℕ} {g₀ : Progress} {vs₀ ms₀ rows₀ : List ℕ} {g : Progress} {vs ms rows : List ℕ}
     (w : Rounds ended f text areas symbols g₀ vs₀ ms₀ rows₀ g vs ms rows) where
   pub round-ready : Ready text areas g
   round-ready = w .ready
@@ -536,12 +483,12 @@ module _ {ended : Bool} {f : Form} {text areas symbols : List ℕ} {g₀ : Going
   round-room h = omega (arith, w .rows-long)
 
   module _ {u : Turn} {vs′ ms′ rows′ : List ℕ} (v : TurnIs ended f text areas symbols (g .next) (onwardAt ended f text areas symbols g vs ms rows) u vs′ ms′ rows′) where
-    pub round-done : {two : Two} → u ≡ Done two → {r : Two} → r ≡ twoOf u → GroupedTwo (onwardAt ended f text areas symbols g₀ vs₀ ms₀ rows₀) r vs′ ms′ rows′
+    pub round-done : {two : Paired} → u ≡ Done two → {r : Paired} → r ≡ twoOf u → GroupedTwo (onwardAt ended f text areas symbols g₀ vs₀ ms₀ rows₀) r vs′ ms′ rows′
     round-done {two} e i =
         let k : GroupedTwo (onwardAt ended f text areas symbols g vs ms rows) two vs′ ms′ rows′ = rw e at (v .says) in
         rw (i, e) (record { says = k .says ∙ sym (w .rest); few = k .few })
 
-    module _ {g′ : Going} (e : u ≡ Goes g′) where
+    module _ {g′ : Progress} (e : u ≡ Goes g′) where
       on : GoesOn ended f text areas symbols (g .next) (onwardAt ended f text areas symbols g vs ms rows) g′ vs′ ms′ rows′
       on = rw e at (v .says)
 

@@ -22,31 +22,36 @@ use Rattle.format.specs.Reading as paper
 use Rattle.format.specs.Held.{Held}
 use Rattle.laws.specs.Places.{recordsAt, pairsAt}
 use Rattle.laws.specs.Rows.{from, areasIn, tablesIn, fixupRow, fixupsIn, stateOf}
-use Rattle.place.specs.Group.{areasFor, roomFor, Regrouped}
+use Rattle.grouped.specs.Group.{areasFor}
+use Rattle.layout.specs.Out.{TablesOut, ImagesOut}
+use Rattle.layout.proofs.Laws.{fixups-laid, areas-laid, symbols-laid}
 use Rattle.homes.specs.Home.{noHome, homeAt}
 use Rattle.homes.proofs.Laws.{home-past}
-use Rattle.place.specs.declared.group.Grouped as place
 use Rattle.scan.proofs.Laws.Tests.{was-no, was-yes}
 use Rattle.reading.specs.Answer.{toldCounts, held}
-use Rattle.reading.specs.WayIn.{Rooms}
-use Rattle.reading.specs.GroupOne.{Hold, Read, Grouped}
-use Rattle.reading.specs.Onward.{Ended, endsOf, onward, onwardAt, toldTwo, GroupedTwo, endingOf, Ready}
-use Rattle.reading.specs.Laid.{goingAt, startingOf, Begun, Blank, pairsFrom, onwardFrom, SecondIs, Whole, wholeOf, wholeAt, wholeLines, verdictAt, Laid, TablesOut, ImagesOut, countsFrom, AcceptedIs, HeaderOnly, answerOne, answerTwo, RestIs}
+use Rattle.way_in.specs.WayIn.{Rooms}
+use Rattle.tables.specs.GroupOne.{Hold, Read, Refuses, Grouped}
+use Rattle.planning.specs.Plan.{endingOf, goingAt, startingOf}
+use Rattle.reading.specs.Onward.{Ended, endsOf, onward, onwardAt, toldTwo, GroupedTwo, Ready}
+use Rattle.reading.specs.Laid.{Begun, Blank, pairsFrom, onwardFrom, SecondIs, Whole, wholeOf, wholeAt, wholeLines, verdictAt, Laid, countsFrom, AcceptedIs, HeaderOnly, answerTwo, RestIs}
 use Rattle.reading.specs.declared.Answer as code
 use Rattle.reading.specs.declared.Answer.the-variants.{Refusal, Accepted}
 use Rattle.reading.specs.declared.Verdict.the-variants.{Finished, Stopped}
 use Rattle.reading.specs.declared.Counts.{Counts}
-use Rattle.reading.specs.declared.sizes.Sizes.{Sizes}
-use Rattle.reading.specs.declared.group_one.Found.{Found}
-use Rattle.reading.specs.declared.group_one.One.{One}
-use Rattle.reading.specs.declared.group_one.One.the-variants.{Done, Refused}
-use Rattle.reading.specs.declared.plan.Standing.the-variants.{Made, Kept}
-use Rattle.reading.specs.declared.plan.Going.{Going}
-use Rattle.reading.specs.declared.plan.Two.{Two}
-use Rattle.reading.specs.declared.plan.Two.the-variants.{All, Rejected}
-use Rattle.reading.proofs.GroupOne.{flat-length, six-numbers, five-numbers}
-use Rattle.reading.proofs.GroupTwo.{laid, onward-end, few-end}
-use Rattle.reading.proofs.TableRows.{areas-held, tables-held}
+use Rattle.tables.specs.declared.sizes.Sizes.{Sizes}
+use Rattle.tables.specs.declared.group.Found.{Found}
+use Rattle.tables.specs.declared.group.Listed.{Listed}
+use Rattle.tables.specs.declared.group.Listed.the-variants.{Done, Refused, TooLong}
+use Rattle.planning.specs.declared.state.Standing.the-variants.{Made, Kept}
+use Rattle.planning.specs.declared.state.Progress.{Progress}
+use Rattle.planning.specs.declared.state.Paired.{Paired}
+use Rattle.planning.specs.declared.state.Paired.the-variants.{All, Rejected}
+use Rattle.steps.proofs.Stored.{laid}
+use Rattle.tables.specs.Sizes.{SizesAre, few}
+use Rattle.tables.proofs.KeptSizes.{sizes-all}
+use Rattle.tables.proofs.Growth.{flat-length, six-numbers, five-numbers}
+use Rattle.reading.proofs.GroupTwo.{onward-end, few-end}
+use Rattle.tables.proofs.TableRows.{areas-held, tables-held}
 
 -- ------------------------------------------------------------------ small answers
 
@@ -62,42 +67,15 @@ header-refused n e h = record { header-is = rw h }
 pub header-accepted : {ended : Bool} {n e : ℕ} {r : code.Answer} → ended ≡ false → AcceptedIs (record { areas = 0; symbols = 0; lines = 0; kept = 0; positions = 0; fixups = 0 }) n e r → HeaderOnly ended n e r
 header-accepted h w = record { header-is = rw h (w .accepts) }
 
-pub one-refused : {o : One} {n p : ℕ} → o ≡ Refused n p → Refusal n p ≡ answerOne o
-one-refused e = rw e
-
-pub one-done : {o : One} {d : Found} → o ≡ Done d → Refusal 0 0 ≡ answerOne o
-one-done e = rw e
-
-pub two-rejected : {o : Two} {n p : ℕ} → o ≡ Rejected n p → Refusal n p ≡ answerTwo o
+pub two-rejected : {o : Paired} {n p : ℕ} → o ≡ Rejected n p → Refusal n p ≡ answerTwo o
 two-rejected e = rw e
 
-pub two-all : {o : Two} {n e k : ℕ} → o ≡ All n e k → Refusal 0 0 ≡ answerTwo o
+pub two-all : {o : Paired} {n e k : ℕ} → o ≡ All n e k → Refusal 0 0 ≡ answerTwo o
 two-all e = rw e
 
-module _ (d : Found) (z : ℕ) {g : Going} where
-  pub start-nine : 65536 < z → g ≡ goingAt d 0 (d .more) (Kept 9 0) → g ≡ startingOf d z
-  start-nine h e = rw (e, lt-ltb 65536 z h)
-
-  pub start-none : z ≤ 65536 → g ≡ goingAt d z (d .more) (Made 0) → g ≡ startingOf d z
-  start-none h e = rw (e, le-ltb 65536 z h)
-
-pub ruleset answers = (needs, accept-finished, accept-stopped, header-refused, header-accepted, one-refused, one-done, two-rejected, two-all, start-nine, start-none)
+pub ruleset answers = (needs, accept-finished, accept-stopped, header-refused, header-accepted, two-rejected, two-all)
 
 -- ------------------------------------------------------------------ rows out
-
-pub fixups-out : {k n : ℕ} {rows out out′ : List ℕ} {r : place.Grouped} → Regrouped k n rows out r out′ → 9 * k ≤ length rows → 9 * k ≤ length out → out′ ≡ over (areasFor n 0 (fixupsIn rows k)) out
-unfolding roomFor
-fixups-out {k} {n} {rows} {out} w h i = rw (le-leb (9 * k) (length rows) h, le-leb (9 * k) (length out) i) at (w .stored)
-
-pub tables-out : {c : Counts} {xs ys areas symbols areas′ symbols′ : List ℕ} → areas′ ≡ sets areas 0 (take (6 * c .areas) xs) → symbols′ ≡ sets symbols 0 (take (5 * c .symbols) ys)
-    → TablesOut c xs ys areas symbols areas′ symbols′
-tables-out a b = record { of-areas = a; of-symbols = b }
-
-pub images-out : {c : Counts} {vs ms rows values masks fixups values′ masks′ fixups′ : List ℕ} → values′ ≡ sets values 0 (take (c .positions) vs) → masks′ ≡ sets masks 0 (take (c .positions) ms)
-    → fixups′ ≡ over (areasFor (c .kept) 0 (fixupsIn rows (c .fixups))) fixups → ImagesOut c vs ms rows values masks fixups values′ masks′ fixups′
-images-out a b c = record { of-values = a; of-masks = b; of-fixups = c }
-
-pub ruleset outs = (needs, fixups-out, tables-out, images-out)
 
 -- rows laid over a buffer, and rows taken out of an array
 over-is : (rows old : List ℕ) → length rows ≤ length old → sets old 0 rows ≡ over rows old
@@ -183,7 +161,7 @@ module _ (f : Form) (t : Tables) (ps : List (Taken the.Pair)) (d : Found) (z : �
 
 -- the start, by whether the kept sizes are too large
 module _ (ended : Bool) (f : Form) (text : List ℕ) (d : Found) (xs ys : List ℕ) (t : Tables) (z : ℕ) (et : tablesIn xs (d .areas) ys (d .symbols) ≡ t) (ez : z ≡ total (t .areas)) (rows : List ℕ) where
-  starts : (b : Bool) → ltb 65536 z ≡ b → Going
+  starts : (b : Bool) → ltb 65536 z ≡ b → Progress
   starts b h = pick b (goingAt d 0 (d .more) (Kept 9 0)) (goingAt d z (d .more) (Made 0))
 
   module _ (vs ms : List ℕ) where
@@ -207,7 +185,7 @@ module _ (ended : Bool) (f : Form) (text : List ℕ) (d : Found) (xs ys : List �
     fresh-fits false h e i = (refl, ltb-false 65536 z h)
 
 -- what group two asks of its start
-module _ {text : List ℕ} (d : Found) {xs : List ℕ} {s : Sizes} (u : Begun text xs d s) {g : Going} (e : g ≡ startingOf d (s .total)) where
+module _ {text : List ℕ} (d : Found) {xs : List ℕ} {s : Sizes} (u : Begun text xs d s) {g : Progress} (e : g ≡ startingOf d (s .total)) where
   pub start-ready : Ready text xs g
   start-ready = rw e (go (ltb 65536 (s .total)) refl)
     where
@@ -238,11 +216,15 @@ blank-large {text} {xs} {d} {s} u = go (ltb 65536 (s .total)) refl
     go true k = blank-of 0 65536 (omega arith)
     go false k = blank-of (s .total) 65536 (ltb-false 65536 (s .total) k)
 
-pub ruleset sizing = (needs, blank-small, blank-large)
+-- what it begins with
+pub begun : {text xs : List ℕ} {d : Found} {s : Sizes} → d .next ≤ length text → length text ≤ 65536 → d .areas ≤ 64 → d .symbols ≤ 1024 → SizesAre xs (few (d .areas)) s → Begun text xs d s
+begun a b c e w = record { inside = a; short = b; areas-low = c; symbols-low = e; sizes = sizes-all w c }
+
+pub ruleset sizing = (needs, blank-small, blank-large, begun)
 
 -- ------------------------------------------------------------------ `over_images`
 
-module _ {ended : Bool} {f : Form} {text : List ℕ} (d : Found) {xs ys : List ℕ} {s : Sizes} (u : Begun text xs d s) {g : Going} (e : g ≡ startingOf d (s .total)) {two : Two} {vs₀ ms₀ rows₀ vs ms rows : List ℕ}
+module _ {ended : Bool} {f : Form} {text : List ℕ} (d : Found) {xs ys : List ℕ} {s : Sizes} (u : Begun text xs d s) {g : Progress} (e : g ≡ startingOf d (s .total)) {two : Paired} {vs₀ ms₀ rows₀ vs ms rows : List ℕ}
     (bv : Blank (startingOf d (s .total) .positions) vs₀) (bm : Blank (startingOf d (s .total) .positions) ms₀) (v : SecondIs ended f text xs ys g vs₀ ms₀ rows₀ two vs ms rows) where
   same-tables : {t : Tables} {xs₀ ys₀ : List ℕ} → length xs₀ ≡ 384 → length ys₀ ≡ 5120 → Hold t xs₀ ys₀ xs ys (d .areas) (d .symbols) → tablesIn xs (d .areas) ys (d .symbols) ≡ t
   same-tables lx ly h = tables-held h (omega (arith, u .areas-low)) (omega (arith, u .symbols-low))
@@ -255,7 +237,7 @@ module _ {ended : Bool} {f : Form} {text : List ℕ} (d : Found) {xs ys : List �
   unfolding starts
   comes-to {t} lx ly h =
       fresh-whole ended f text d xs ys t (s .total) (same-tables lx ly h) (same-total lx ly h) rows₀ vs₀ ms₀ (ltb 65536 (s .total)) refl (bv .zeros) (bm .zeros)
-      ∙ (ap (λ (x : Going). andThen (onwardFrom ended f text xs ys x (take (x .positions) vs₀) (take (x .positions) ms₀) rows₀) (λ x. fine (wholeFrom t (s .total) x))) (sym e)
+      ∙ (ap (λ (x : Progress). andThen (onwardFrom ended f text xs ys x (take (x .positions) vs₀) (take (x .positions) ms₀) rows₀) (λ x. fine (wholeFrom t (s .total) x))) (sym e)
       ∙ ap (λ (o : Outcome Ended). andThen o (λ x. fine (wholeFrom t (s .total) x))) (sym (v .grouped .says)))
 
   pub rest-refused : {n p : ℕ} → two ≡ Rejected n p → {r : code.Answer} → r ≡ answerTwo two → (old : Held) → RestIs ended f text d xs ys old r old
@@ -267,30 +249,31 @@ module _ {ended : Bool} {f : Form} {text : List ℕ} (d : Found) {xs ys : List �
   }
 
   module _ {lines stop k : ℕ} (h : two ≡ All lines stop k) where
-    few : k ≤ 1024
-    few = rw h at (v .grouped .few)
+    few-fixups : k ≤ 1024
+    few-fixups = rw h at (v .grouped .few)
 
     pub rest-rows : length rows ≡ length rows₀ → length rows₀ ≡ 9216 → 9 * k ≤ length rows
-    rest-rows a b = omega (arith, few)
+    rest-rows a b = omega (arith, few-fixups)
 
     pub rest-out : {a b c m n : ℕ} → Rooms a b c m n → 9 * k ≤ n
-    rest-out r = omega (arith, few, r .for-fixups)
+    rest-out r = omega (arith, few-fixups, r .for-fixups)
 
     long : (g .positions ≡ s .total) × (s .total ≤ 65536)
     unfolding starts tablesIn areasIn
     long =
         let fine-is : fine (record { lines = lines; stop = stop; state = stateOf (take (g .positions) vs) (take (g .positions) ms) rows k })
         ≡ onwardFrom ended f text xs ys g (take (g .positions) vs₀) (take (g .positions) ms₀) rows₀ = rw h at (v .grouped .says) in
-        let start : _ = ap (λ (x : Going). onwardFrom ended f text xs ys x (take (x .positions) vs₀) (take (x .positions) ms₀) rows₀) e in
+        let start : _ = ap (λ (x : Progress). onwardFrom ended f text xs ys x (take (x .positions) vs₀) (take (x .positions) ms₀) rows₀) e in
         let z = fresh-fits ended f text d xs ys (tablesIn xs (d .areas) ys (d .symbols)) (s .total) refl (u .sizes .total-is) rows₀ vs₀ ms₀ (ltb 65536 (s .total)) refl _ (fine-is ∙ start) in
-        (ap (λ (x : Going). x .positions) e ∙ z .0, z .1)
+        (ap (λ (x : Progress). x .positions) e ∙ z .0, z .1)
 
     pub rest-done : {c : Counts} → c ≡ countsFrom d s lines k → {areas symbols values masks fixups areas′ symbols′ values′ masks′ fixups′ : List ℕ}
         → Rooms (length areas) (length symbols) (length values) (length masks) (length fixups)
-        → TablesOut c xs ys areas symbols areas′ symbols′ → ImagesOut c vs ms rows values masks fixups values′ masks′ fixups′ → {r : code.Answer} → AcceptedIs c (length text) stop r
+        → length rows ≡ length rows₀ → length rows₀ ≡ 9216
+        → TablesOut (d .areas) (d .symbols) xs ys areas symbols areas′ symbols′ → ImagesOut (s .total) k (s .kept) vs ms rows values masks fixups values′ masks′ fixups′ → {r : code.Answer} → AcceptedIs c (length text) stop r
         → RestIs ended f text d xs ys (held areas symbols values masks fixups) r (held areas′ symbols′ values′ masks′ fixups′)
     unfolding wholeFrom paper.countsOf paper.fixupsOf areasFor stateOf fixupsIn tablesIn
-    rest-done {c} i {areas} {symbols} {values} {masks} {fixups} {areas′} {symbols′} {values′} {masks′} {fixups′} rooms a m {r} b = record { laid = lay }
+    rest-done {c} i {areas} {symbols} {values} {masks} {fixups} {areas′} {symbols′} {values′} {masks′} {fixups′} rooms lr lz a m {r} b = record { laid = lay }
       where
         lay : (t : Tables) (xs₀ ys₀ : List ℕ) → length xs₀ ≡ 384 → length ys₀ ≡ 5120 → Hold t xs₀ ys₀ xs ys (d .areas) (d .symbols)
             → Laid (length text) (wholeAt f t (pairsFrom ended f text (d .next) (d .more)) (d .stop)) (held areas symbols values masks fixups) r (held areas′ symbols′ values′ masks′ fixups′)
@@ -302,11 +285,11 @@ module _ {ended : Bool} {f : Form} {text : List ℕ} (d : Found) {xs ys : List �
             λ j. record { areas = k₀ .area-count j; symbols = k₀ .symbol-count j; lines = lines; kept = kept j; positions = s .total; fixups = sym (rows-counted rows 0 k) j } in
             let la = flat-length areaNumbers 6 six-numbers (t .areas) in
             let ls = flat-length symbolNumbers 5 five-numbers (t .symbols) in
-            let ta = rw i at (a .of-areas) in
-            let ts = rw i at (a .of-symbols) in
-            let iv : values′ ≡ sets values 0 (take (s .total) vs) = rw i at (m .of-values) in
-            let im : masks′ ≡ sets masks 0 (take (s .total) ms) = rw i at (m .of-masks) in
-            let fx : fixups′ ≡ over (areasFor (s .kept) 0 (fixupsIn rows k)) fixups = rw i at (m .of-fixups) in
+            let ta = areas-laid a (u .areas-low) in
+            let ts = symbols-laid a (u .symbols-low) in
+            let iv : values′ ≡ sets values 0 (take (s .total) vs) = m .of-values in
+            let im : masks′ ≡ sets masks 0 (take (s .total) ms) = m .of-masks in
+            let fx : fixups′ ≡ over (areasFor (s .kept) 0 (fixupsIn rows k)) fixups = fixups-laid (m .of-fixups) (rest-rows lr lz) (rest-out rooms) (u .sizes .kept-low) in
             subst (λ (x : Outcome Whole). Laid (length text) x (held areas symbols values masks fixups) r (held areas′ symbols′ values′ masks′ fixups′)) (sym o)
             (record {
               says = b .accepts ∙ ap (λ (x : paper.Counts). paper.accepted x (verdictAt (length text) stop)) (ap toldCounts i ∙ counts);
@@ -317,22 +300,7 @@ module _ {ended : Bool} {f : Form} {text : List ℕ} (d : Found) {xs ys : List �
               fixups = fx ∙ ap (λ (n : ℕ). over (areasFor n 0 (fixupsIn rows k)) fixups) kept;
             })
 
--- what is asked of the counts
-module _ {c : Counts} (d : Found) {s : Sizes} {lines k : ℕ} (e : c ≡ countsFrom d s lines k) where
-  module _ {text xs : List ℕ} (u : Begun text xs d s) where
-    pub counts-areas : c .areas ≤ 64
-    counts-areas = rw e (u .areas-low)
-
-    pub counts-symbols : c .symbols ≤ 1024
-    counts-symbols = rw e (u .symbols-low)
-
-    pub counts-kept : c .kept ≤ 64
-    counts-kept = rw e (u .sizes .kept-low)
-
-  pub counts-fixups : {n : ℕ} → 9 * k ≤ n → 9 * c .fixups ≤ n
-  counts-fixups h = rw e h
-
-pub ruleset rests = (needs, zeros-9216, fresh-rows, start-ready, start-short, start-long, rest-refused, rest-rows, rest-out, rest-done, counts-areas, counts-symbols, counts-kept, counts-fixups)
+pub ruleset rests = (needs, zeros-9216, fresh-rows, start-ready, start-short, start-long, rest-refused, rest-done)
 
 -- ------------------------------------------------------------------ `read_lines`
 
@@ -346,20 +314,24 @@ flatten t p e P h i (fine n) (fine z) (fine s) =
     let k : paper.Built = record { tables = t; lines = n; size = z; state = s } in
     λ j. fine (record { built = i k j; stop = h k j })
 
-module _ (ended : Bool) (f : Form) (text : List ℕ) (at head : ℕ) (xs₀ ys₀ xs ys : List ℕ) {o : One} (w : Grouped ended f text at head xs₀ ys₀ xs ys o) where
-  pub lines-refused : {n p : ℕ} → o ≡ Refused n p → {r : code.Answer} → r ≡ answerOne o → (old : Held) → Laid (length text) (wholeLines ended f text at head) old r old
+module _ (ended : Bool) (f : Form) (text : List ℕ) (at head : ℕ) (xs₀ ys₀ xs ys : List ℕ) {o : Listed} (w : Grouped ended f text at head xs₀ ys₀ xs ys o) where
+  pub lines-refused : {n p : ℕ} → o ≡ Refused n p → (old : Held) → Laid (length text) (wholeLines ended f text at head) old (Refusal n p) old
   unfolding wholeLines paper.readOf paper.build Grouped over
-  lines-refused {n} {p} g i old =
-      let k : tables (recordsAt ended f text at .entries) ≡ refused n p = rw g at w in
-      rw (i, g, k) (record { says = refl; areas = refl; symbols = refl; values = refl; masks = refl; fixups = refl })
+  lines-refused {n} {p} g old =
+      let k : Refuses ended f text at xs₀ ys₀ xs ys n p = rw g at w in
+      rw (k .says) (record { says = refl; areas = refl; symbols = refl; values = refl; masks = refl; fixups = refl })
+
+  pub lines-long : o ≡ TooLong → length text ≤ 65536 → (old : Held) → Laid (length text) (wholeLines ended f text at head) old (Refusal 2 0) old
+  unfolding Grouped
+  lines-long g h old = let k : (65536 < length text) × (xs ≡ xs₀) × (ys ≡ ys₀) = rw g at w in absurd (omega (arith, k .0))
 
   module _ {d : Found} (g : o ≡ Done d) where
     found : Read ended f text at head xs₀ ys₀ xs ys d
     unfolding Grouped
     found = rw g at w
 
-    pub lines-next : d .next ≤ length text
-    lines-next = found .inside
+    pub lines-next : at ≤ length text → d .next ≤ length text
+    lines-next h = found .inside h
 
     pub lines-areas : d .areas ≤ 64
     lines-areas = found .areas-low
@@ -383,12 +355,12 @@ module _ (ended : Bool) (f : Form) (text : List ℕ) (at head : ℕ) (xs₀ ys�
     pub lines-rest : length xs₀ ≡ 384 → length ys₀ ≡ 5120 → {old new : Held} {r : code.Answer} → RestIs ended f text d xs ys old r new → Laid (length text) (wholeLines ended f text at head) old r new
     lines-rest lx ly {old} {new} {r} v = subst (λ (x : Outcome Whole). Laid (length text) x old r new) (sym lines-are) (v .laid (found .sofar) xs₀ ys₀ lx ly (found .held))
 
-pub ruleset lines = (needs, zeros-384, zeros-5120, lines-refused, lines-next, lines-areas, lines-symbols, lines-rest)
+pub ruleset lines = (needs, zeros-384, zeros-5120, lines-refused, lines-long, lines-next, lines-areas, lines-symbols, lines-rest)
 
 -- ------------------------------------------------------------------ `second`
 
-module _ (ended : Bool) (f : Form) {text areas : List ℕ} (symbols : List ℕ) {g : Going} (r : Ready text areas g) where
-  pub second-none : not (g .on) ≡ true → {two : Two} → two ≡ endingOf g → (vs ms rows : List ℕ)
+module _ (ended : Bool) (f : Form) {text areas : List ℕ} (symbols : List ℕ) {g : Progress} (r : Ready text areas g) where
+  pub second-none : not (g .on) ≡ true → {two : Paired} → two ≡ endingOf g → (vs ms rows : List ℕ)
       → SecondIs ended f text areas symbols g vs ms rows two vs ms rows
   unfolding onwardFrom
   second-none h e vs ms rows =
@@ -398,7 +370,7 @@ module _ (ended : Bool) (f : Form) {text areas : List ℕ} (symbols : List ℕ) 
       rw e (record { grouped = record { says = sym (b ∙ onward-end f T g (take (g .positions) vs) (take (g .positions) ms) rows); few = few-end areas (g .areas) (g .standing) (g .lines) (g .stop) (r .sound) } })
 
   -- over the first positions of two images, which come back with what stands behind them
-  pub second-some : not (g .on) ≡ false → (vs ms : List ℕ) → g .positions ≤ length vs → g .positions ≤ length ms → {rows vs′ ms′ rows′ : List ℕ} {two : Two}
+  pub second-some : not (g .on) ≡ false → (vs ms : List ℕ) → g .positions ≤ length vs → g .positions ≤ length ms → {rows vs′ ms′ rows′ : List ℕ} {two : Paired}
       → GroupedTwo (onwardAt ended f text areas symbols g (take (g .positions) vs) (take (g .positions) ms) rows) two vs′ ms′ rows′
       → length vs′ ≡ length (take (g .positions) vs) → length ms′ ≡ length (take (g .positions) ms)
       → SecondIs ended f text areas symbols g vs ms rows two (vs′ ++ drop (g .positions) vs) (ms′ ++ drop (g .positions) ms) rows′

@@ -1,9 +1,3 @@
-pub mod EntryLines
-pub mod GroupOne
 pub mod GroupTwo
-pub mod KeptSizes
 pub mod Laid
 pub mod Opening
-pub mod PairLines
-pub mod TableRows
-pub mod WayIn

@@ -26,16 +26,16 @@ use Rattle.header.specs.declared.Form as text
 use Rattle.header.specs.declared.Head.{Head}
 use Rattle.header.specs.declared.Head.the-variants.{Found, Missing}
 use Rattle.reading.specs.Answer.{told, toldCounts, toldVerdict, held}
-use Rattle.reading.specs.WayIn.{Rooms, GateIs}
+use Rattle.way_in.specs.WayIn.{Rooms, GateIs}
 use Rattle.reading.specs.Laid.{Whole, wholeOf, wholeLines, wholeText, layOf, Laid, HeaderOnly}
 use Rattle.reading.specs.declared.Answer.{Answer}
 use Rattle.reading.specs.declared.Answer.the-variants.{Refusal, Accepted}
 use Rattle.reading.specs.declared.Counts.{Counts}
 use Rattle.reading.specs.declared.Verdict.{Verdict}
 use Rattle.reading.specs.declared.Verdict.the-variants.{Finished, Stopped}
-use Rattle.reading.specs.declared.way_in.Gate.{Gate}
-use Rattle.reading.specs.declared.way_in.Gate.the-variants.{Open, Shut}
-use Rattle.reading.proofs.EntryLines.{end-within}
+use Rattle.way_in.specs.declared.Gate.{Gate}
+use Rattle.way_in.specs.declared.Gate.the-variants.{Open, Shut}
+use Rattle.steps.proofs.Entries.{end-within}
 
 -- `read_text`
 module _ (ended : Bool) (s : List ℕ) {h : Head} (e : toldHead h ≡ header s) where

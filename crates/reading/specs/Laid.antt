@@ -19,37 +19,23 @@ use Rattle.format.specs.Reading as paper
 use Rattle.format.specs.Held.{Held}
 use Rattle.laws.specs.Places.{pairsAt, recordsAt}
 use Rattle.laws.specs.Rows.{areasIn, tablesIn, fixupsIn}
-use Rattle.place.specs.Group.{areasFor}
+use Rattle.grouped.specs.Group.{areasFor}
 use Rattle.homes.specs.Home.{noHome}
 use Rattle.reading.specs.Answer.{told, toldCounts}
-use Rattle.reading.specs.GroupOne.{Hold}
+use Rattle.tables.specs.GroupOne.{Hold}
+use Rattle.tables.specs.Sizes.{SizesAre}
+use Rattle.planning.specs.Plan.{startingOf}
 use Rattle.reading.specs.Onward.{Ended, GroupedTwo, endsOf, onward}
 use Rattle.reading.specs.declared.Answer as code
 use Rattle.reading.specs.declared.Answer.the-variants.{Refusal}
 use Rattle.reading.specs.declared.Counts.{Counts}
-use Rattle.reading.specs.declared.sizes.Sizes.{Sizes}
-use Rattle.reading.specs.declared.group_one.Found.{Found}
-use Rattle.reading.specs.declared.group_one.One.{One}
-use Rattle.reading.specs.declared.group_one.One.the-variants.{Done, Refused}
-use Rattle.reading.specs.declared.plan.Standing.{Standing}
-use Rattle.reading.specs.declared.plan.Standing.the-variants.{Made, Kept}
-use Rattle.reading.specs.declared.plan.Going.{Going}
-use Rattle.reading.specs.declared.plan.Two.{Two}
-use Rattle.reading.specs.declared.plan.Two.the-variants.{All, Rejected}
-
--- the kept areas of rows
-pub record SizesAre (areas : List ℕ) (n : ℕ) (r : Sizes) : Type 0 where
-  pub total-is : r .total ≡ total (areasIn areas n)
-  pub kept-is : r .kept ≡ keptCount (areasIn areas n)
-  pub kept-low : r .kept ≤ 64
-
--- group two before its first pair
-abbrev pub goingAt : Found → (positions : ℕ) → Bool → Standing → Going
-goingAt d n on s =
-    record { areas = d .areas; symbols = d .symbols; positions = n; next = d .next; stop = d .stop; lines = 0; on = on; standing = s; home = noHome (d .areas) }
-
-abbrev pub startingOf : Found → (total : ℕ) → Going
-startingOf d z = pick (ltb 65536 z) (goingAt d 0 (d .more) (Kept 9 0)) (goingAt d z (d .more) (Made 0))
+use Rattle.tables.specs.declared.sizes.Sizes.{Sizes}
+use Rattle.tables.specs.declared.group.Found.{Found}
+use Rattle.planning.specs.declared.state.Standing.{Standing}
+use Rattle.planning.specs.declared.state.Standing.the-variants.{Made, Kept}
+use Rattle.planning.specs.declared.state.Progress.{Progress}
+use Rattle.planning.specs.declared.state.Paired.{Paired}
+use Rattle.planning.specs.declared.state.Paired.the-variants.{All, Rejected}
 
 -- what it begins with: the text and the tables within their bounds, and the kept areas' sizes
 pub record Begun (text xs : List ℕ) (d : Found) (s : Sizes) : Type 0 where
@@ -68,12 +54,12 @@ pub record Blank (n : ℕ) (vs : List ℕ) : Type 0 where
 abbrev pub pairsFrom : Bool → Form → List ℕ → (next : ℕ) → (more : Bool) → List (Taken the.Pair)
 pairsFrom ended f text next more = pick more (pairsAt ended f text next) []
 
-unfoldable pub onwardFrom : Bool → Form → (text areas symbols : List ℕ) → Going → (vs ms rows : List ℕ) → Outcome Ended
+unfoldable pub onwardFrom : Bool → Form → (text areas symbols : List ℕ) → Progress → (vs ms rows : List ℕ) → Outcome Ended
 onwardFrom ended f text areas symbols g vs ms rows =
     onward f (tablesIn areas (g .areas) symbols (g .symbols)) (pairsFrom ended f text (g .next) (g .on)) g vs ms rows
 
 -- group two over the first positions of two images
-pub record SecondIs (ended : Bool) (f : Form) (text areas symbols : List ℕ) (g : Going) (vs ms rows : List ℕ) (r : Two) (vs′ ms′ rows′ : List ℕ) : Type 0 where
+pub record SecondIs (ended : Bool) (f : Form) (text areas symbols : List ℕ) (g : Progress) (vs ms rows : List ℕ) (r : Paired) (vs′ ms′ rows′ : List ℕ) : Type 0 where
   pub grouped : GroupedTwo (onwardFrom ended f text areas symbols g (take (g .positions) vs) (take (g .positions) ms) rows) r (take (g .positions) vs′) (take (g .positions) ms′) rows′
 
 -- what the records give, and where they end
@@ -124,16 +110,7 @@ pub record Laid (n : ℕ) (o : Outcome Whole) (old : Held) (r : code.Answer) (ne
   pub masks : new .masks ≡ over (layOf n o .masks) (old .masks)
   pub fixups : new .fixups ≡ over (layOf n o .fixups) (old .fixups)
 
--- rows laid over the lent buffers
-pub record TablesOut (c : Counts) (xs ys areas symbols areas′ symbols′ : List ℕ) : Type 0 where
-  pub of-areas : areas′ ≡ sets areas 0 (take (6 * c .areas) xs)
-  pub of-symbols : symbols′ ≡ sets symbols 0 (take (5 * c .symbols) ys)
-
-pub record ImagesOut (c : Counts) (vs ms rows values masks fixups values′ masks′ fixups′ : List ℕ) : Type 0 where
-  pub of-values : values′ ≡ sets values 0 (take (c .positions) vs)
-  pub of-masks : masks′ ≡ sets masks 0 (take (c .positions) ms)
-  pub of-fixups : fixups′ ≡ over (areasFor (c .kept) 0 (fixupsIn rows (c .fixups))) fixups
-
+-- how much there is
 abbrev pub countsFrom : Found → Sizes → (lines fixups : ℕ) → Counts
 countsFrom d z n k = record { areas = d .areas; symbols = d .symbols; lines = n; kept = z .kept; positions = z .total; fixups = k }
 
@@ -145,12 +122,8 @@ pub record AcceptedIs (c : Counts) (n stop : ℕ) (r : code.Answer) : Type 0 whe
 pub record HeaderOnly (ended : Bool) (n next : ℕ) (r : code.Answer) : Type 0 where
   pub header-is : told r ≡ pick ended (paper.refusal 4 0) (paper.accepted (record { areas = 0; symbols = 0; lines = 0; kept = 0; positions = 0; fixups = 0 }) (verdictAt n next))
 
--- a refusal of each group
-abbrev pub answerOne : One → code.Answer
-answerOne (Refused n p) = Refusal n p
-answerOne (Done d) = Refusal 0 0
-
-abbrev pub answerTwo : Two → code.Answer
+-- a refusal of group two
+abbrev pub answerTwo : Paired → code.Answer
 answerTwo (Rejected n p) = Refusal n p
 answerTwo (All n e k) = Refusal 0 0
 

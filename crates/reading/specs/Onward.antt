@@ -21,22 +21,23 @@ use Rattle.header.specs.declared.Form as text
 use Rattle.homes.specs.Home.{homeAt}
 use Rattle.place.specs.Pair.{pairOf}
 use Rattle.homes.specs.declared.Home.{Home}
-use Rattle.place.specs.declared.pair.Filled.{Filled}
-use Rattle.place.specs.declared.pair.Line.{Line}
+use Rattle.sites.specs.declared.Filled.{Filled}
+use Rattle.sites.specs.declared.Line.{Line}
 use Rattle.place.specs.declared.pair.Placed as place
 use Rattle.place.specs.declared.pair.Placed.the-variants.{Done as Through, Stopped, Misfit}
-use Rattle.reading.specs.declared.pair.Body.the-variants.{Skipped, Placed}
-use Rattle.reading.specs.declared.pair.PairStep.{PairStep}
-use Rattle.reading.specs.declared.pair.PairStep.the-variants.{Ends, Takes}
-use Rattle.reading.specs.declared.plan.Standing.{Standing}
-use Rattle.reading.specs.declared.plan.Standing.the-variants.{Made, Kept}
-use Rattle.reading.specs.declared.plan.Going.{Going}
-use Rattle.reading.specs.declared.plan.Two.{Two}
-use Rattle.reading.specs.declared.plan.Two.the-variants.{All, Rejected}
-use Rattle.reading.specs.declared.plan.Turn.{Turn}
-use Rattle.reading.specs.declared.plan.Turn.the-variants.{Goes, Done}
-use Rattle.reading.specs.declared.plan.Plan.{Plan}
-use Rattle.reading.specs.declared.plan.Plan.the-variants.{Leave, Place}
+use Rattle.steps.specs.declared.pair.Body.the-variants.{Skipped, Placed}
+use Rattle.steps.specs.declared.pair.PairStep.{PairStep}
+use Rattle.steps.specs.declared.pair.PairStep.the-variants.{Ends, Takes}
+use Rattle.planning.specs.declared.state.Standing.{Standing}
+use Rattle.planning.specs.declared.state.Standing.the-variants.{Made, Kept}
+use Rattle.planning.specs.declared.state.Progress.{Progress}
+use Rattle.planning.specs.declared.state.Paired.{Paired}
+use Rattle.planning.specs.declared.state.Paired.the-variants.{All, Rejected}
+use Rattle.planning.specs.declared.state.Turn.{Turn}
+use Rattle.planning.specs.declared.state.Turn.the-variants.{Goes, Done}
+use Rattle.planning.specs.declared.state.Plan.{Plan}
+use Rattle.planning.specs.declared.state.Plan.the-variants.{Leave, Place}
+use Rattle.planning.specs.Plan.{endingOf, afterOf, standingIn}
 
 -- the places behind records
 abbrev pub endsOf : List (Taken the.Pair) → List ℕ
@@ -54,77 +55,34 @@ stands (Made k) vs ms rows = fine (stateOf vs ms rows k)
 stands (Kept n p) vs ms rows = refused n p
 
 -- the pairs from here on: counted, then placed
-unfoldable pub onward : Form → Tables → List (Taken the.Pair) → Going → (vs ms rows : List ℕ) → Outcome Ended
+unfoldable pub onward : Form → Tables → List (Taken the.Pair) → Progress → (vs ms rows : List ℕ) → Outcome Ended
 onward f t ps g vs ms rows =
     andThen (fold fits (g .lines) ps) (λ n.
     andThen (andThen (stands (g .standing) vs ms rows) (λ s. fold (placePair f t) s ps)) (λ s.
     fine (record { lines = n; stop = lastOf (g .stop) (endsOf ps); state = s })))
 
-unfoldable pub onwardAt : Bool → Form → (text areas symbols : List ℕ) → Going → (vs ms rows : List ℕ) → Outcome Ended
+unfoldable pub onwardAt : Bool → Form → (text areas symbols : List ℕ) → Progress → (vs ms rows : List ℕ) → Outcome Ended
 onwardAt ended f text areas symbols g vs ms rows =
     onward f (tablesIn areas (g .areas) symbols (g .symbols)) (pairsAt ended f text (g .next)) g vs ms rows
 
-abbrev pub toldTwo : Two → (vs ms rows : List ℕ) → Outcome Ended
+abbrev pub toldTwo : Paired → (vs ms rows : List ℕ) → Outcome Ended
 toldTwo (All n stop k) vs ms rows = fine (record { lines = n; stop = stop; state = stateOf vs ms rows k })
 toldTwo (Rejected n p) vs ms rows = refused n p
 
-abbrev pub FewIn : Two → Type 0
+abbrev pub FewIn : Paired → Type 0
 FewIn (All n stop k) = k ≤ 1024
 FewIn (Rejected n p) = Unit {0}
 
-pub record GroupedTwo (o : Outcome Ended) (r : Two) (vs ms rows : List ℕ) : Type 0 where
+pub record GroupedTwo (o : Outcome Ended) (r : Paired) (vs ms rows : List ℕ) : Type 0 where
   pub says : toldTwo r vs ms rows ≡ o
   pub few : FewIn r
-
--- what is answered at the end, and in a turn
-abbrev pub endingWith : Standing → (lines stop : ℕ) → Two
-endingWith (Made k) n stop = All n stop k
-endingWith (Kept x p) n stop = Rejected x p
-
-abbrev pub endingOf : Going → Two
-endingOf g = endingWith (g .standing) (g .lines) (g .stop)
-
-abbrev pub afterOf : Going → Turn
-afterOf g = pick (g .on) (Goes g) (Done (endingOf g))
-
-abbrev pub steppedOf : Going → (lines end next : ℕ) → Bool → Going
-steppedOf g lines end next on =
-    record { areas = g .areas; symbols = g .symbols; positions = g .positions; next = next; stop = end; lines = lines; on = on; standing = g .standing; home = g .home }
-
-abbrev pub standingIn : Going → Home → Standing → Going
-standingIn g h s =
-    record { areas = g .areas; symbols = g .symbols; positions = g .positions; next = g .next; stop = g .stop; lines = g .lines; on = g .on; standing = s; home = h }
-
-abbrev pub overOf : (number place : ℕ) → Plan
-overOf n p = Leave (Done (Rejected n p))
-
-abbrev pub placedOf : Line → Going → ℕ → Plan
-placedOf l g p = pick (ltb 256 (l .bytes)) (overOf 7 p) (pick (ltb 64 (l .fragments)) (overOf 8 p) (Place l g))
-
-abbrev pub lineFor : text.Form → (place address count area fragments : ℕ) → Line
-lineFor f p a n ar k =
-    record { big = f .big; width = suc (moreOf (f .width)); place = p; address = a; bytes = n; fragments = k; area = ar }
-
-abbrev pub planOf : PairStep → Going → text.Form → Plan
-planOf Ends g f = Leave (Done (endingOf g))
-planOf (Takes Skipped end next on) g f = Leave (afterOf (steppedOf g (g .lines) end next on))
-planOf (Takes (Placed a n ar k) end next on) g f =
-    placedOf (lineFor f (g .next) a n ar k) (steppedOf g (g .lines + 1) end next on) (g .next)
-
-abbrev pub turnOf : Plan → Turn
-turnOf (Leave u) = u
-turnOf (Place l g) = afterOf g
-
-abbrev pub twoOf : Turn → Two
-twoOf (Done two) = two
-twoOf (Goes g) = endingOf g
 
 abbrev pub standingOf : place.Placed → Standing
 standingOf (Through k) = Made k
 standingOf (Stopped n p) = Kept n p
 standingOf Misfit = Kept 0 0
 
-abbrev pub filledOf : Going → ℕ → Filled
+abbrev pub filledOf : Progress → ℕ → Filled
 filledOf g k = record { areas = g .areas; symbols = g .symbols; fixups = k }
 
 -- where placing has not been refused, the rows have room and the images are not too large
@@ -132,7 +90,7 @@ abbrev pub Sound : (areas : List ℕ) (na : ℕ) → Standing → Type 0
 Sound areas na (Made k) = (k ≤ 1024) × (total (areasIn areas na) ≤ 65536)
 Sound areas na (Kept n p) = Unit {0}
 
-pub record Ready (text areas : List ℕ) (g : Going) : Type 0 where
+pub record Ready (text areas : List ℕ) (g : Progress) : Type 0 where
   pub inside : g .next ≤ length text
   pub low : g .lines ≤ g .next
   pub areas-low : g .areas ≤ 64
@@ -148,7 +106,7 @@ pub record Columns (b ms es xs : List ℕ) : Type 0 where
   pub of-indexes : length xs ≡ 64
 
 -- what placing a pair asks
-pub record PlaceReady (l : Line) (g : Going) (table bytes areas rows : List ℕ) : Type 0 where
+pub record PlaceReady (l : Line) (g : Progress) (table bytes areas rows : List ℕ) : Type 0 where
   pub classes : table ≡ classTable
   pub address : l .width ≤ 4
   pub content : l .bytes ≤ 256
@@ -161,7 +119,7 @@ pub record PlaceReady (l : Line) (g : Going) (table bytes areas rows : List ℕ)
   pub room : 9216 ≤ length rows
 
 -- a pair was placed, or a refusal is kept
-pub record Advances (l : Line) (g : Going) (bytes ms es xs areas symbols vs fs rows : List ℕ) (r : Turn) (vs′ fs′ rows′ : List ℕ) : Type 0 where
+pub record Advances (l : Line) (g : Progress) (bytes ms es xs areas symbols vs fs rows : List ℕ) (r : Turn) (vs′ fs′ rows′ : List ℕ) : Type 0 where
   pub standing : Standing
   pub home : Home
   pub answered : r ≡ afterOf (standingIn g home standing)
@@ -170,7 +128,7 @@ pub record Advances (l : Line) (g : Going) (bytes ms es xs areas symbols vs fs r
   pub homed : home ≡ homeAt areas (g .areas) (home .area)
 
 -- what a turn leaves to do
-pub record GoesOn (ended : Bool) (f : Form) (text areas symbols : List ℕ) (p : ℕ) (o : Outcome Ended) (g : Going) (vs ms rows : List ℕ) : Type 0 where
+pub record GoesOn (ended : Bool) (f : Form) (text areas symbols : List ℕ) (p : ℕ) (o : Outcome Ended) (g : Progress) (vs ms rows : List ℕ) : Type 0 where
   pub rest : o ≡ onwardAt ended f text areas symbols g vs ms rows
   pub ready : Ready text areas g
   pub less : p < g .next

@@ -1,13 +1,12 @@
-// The answers: the counts with the verdict, and the refusals of both groups.
+// The answers: the counts with the verdict, and the refusal of group two.
 ghost use mathlib.Core.Path.{_≡_};
-ghost use Rattle.reading.specs.Laid.{countsFrom, AcceptedIs, answerOne, answerTwo};
+ghost use Rattle.reading.specs.Laid.{countsFrom, AcceptedIs, answerTwo};
 use crate::Answer;
 use crate::Counts;
 use crate::Verdict;
-use crate::group_one::Found;
-use crate::group_one::One;
-use crate::plan::Two;
-use crate::sizes::Sizes;
+use planning::Paired;
+use tables::Found;
+use tables::Sizes;
 
 // How much there is.
 pub(crate) fn counts_of(found: Found, sizes: Sizes, lines: usize, fixups: usize) -> Counts
@@ -41,32 +40,16 @@ pub(crate) fn accept(counts: Counts, n: usize, stop: usize) -> Answer
     }
 }
 
-// The refusal of group one.
-pub(crate) fn refuse_one(one: One) -> Answer
-    ensures { λ r. ⌜ r ≡ answerOne one ⌝ }
-{
-    match one {
-        One::Refused { number, at } => Answer::Refusal {
-            number: number,
-            place: at,
-        },
-        One::Done { found: _ } => Answer::Refusal {
-            number: 0,
-            place: 0,
-        },
-    }
-}
-
 // The refusal of group two.
-pub(crate) fn refuse_two(two: Two) -> Answer
+pub(crate) fn refuse_two(two: Paired) -> Answer
     ensures { λ r. ⌜ r ≡ answerTwo two ⌝ }
 {
     match two {
-        Two::Rejected { number, at } => Answer::Refusal {
+        Paired::Rejected { number, at } => Answer::Refusal {
             number: number,
             place: at,
         },
-        Two::All {
+        Paired::All {
             lines: _,
             stop: _,
             fixups: _,

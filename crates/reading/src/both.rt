@@ -3,13 +3,12 @@ ghost use Prim.Native.Nat.{_≤_};
 ghost use lib.ListN.{length};
 ghost use Rattle.header.specs.Told.{formOf};
 ghost use Rattle.reading.specs.Answer.{held};
-ghost use Rattle.reading.specs.WayIn.{Rooms};
+ghost use Rattle.way_in.specs.WayIn.{Rooms};
 ghost use Rattle.reading.specs.Laid.{Laid, wholeLines};
 use crate::Answer;
-use crate::answers::refuse_one;
-use crate::group_one::One;
-use crate::group_one::group_one;
 use crate::images::rest;
+use tables::Listed;
+use tables::group_one;
 use header::Form;
 
 // Both groups from a place on, behind a header that ended at head.
@@ -31,20 +30,27 @@ pub(crate) fn read_lines(
     let mut xs = [0u32; 384];
     let mut ys = [0u32; 5120];
     let one = group_one(t, at, head, form, ended, &mut xs, &mut ys);
-    let One::Done { found } = one else {
-        return refuse_one(one);
-    };
-    rest(
-        t,
-        found,
-        form,
-        ended,
-        &xs,
-        &ys,
-        areas,
-        symbols,
-        values,
-        masks,
-        fixups,
-    )
+    match one {
+        Listed::Refused { number, at } => Answer::Refusal {
+            number: number,
+            place: at,
+        },
+        Listed::TooLong => Answer::Refusal {
+            number: 2,
+            place: 0,
+        },
+        Listed::Done { found } => rest(
+            t,
+            found,
+            form,
+            ended,
+            &xs,
+            &ys,
+            areas,
+            symbols,
+            values,
+            masks,
+            fixups,
+        ),
+    }
 }

@@ -4,28 +4,18 @@ ghost use Prim.Native.Nat.{_≤_};
 ghost use lib.ListN.{length};
 ghost use Rattle.mode.specs.Class.{classTable};
 ghost use Rattle.header.specs.Told.{formOf};
-ghost use Rattle.reading.specs.Onward.{Ready, Columns, twoOf, GroupedTwo, onwardAt};
-use crate::plan::Going;
-use crate::plan::Turn;
-use crate::plan::Two;
-use crate::plan::ending;
+ghost use Rattle.reading.specs.Onward.{Ready, Columns, GroupedTwo, onwardAt};
 use crate::turn::take_turn;
+use planning::Paired;
+use planning::Progress;
+use planning::Turn;
+use planning::two_of;
 use header::Form;
-
-// The answer of the last turn.
-fn two_of(u: Turn) -> Two
-    ensures { λ r. ⌜ r ≡ twoOf u ⌝ }
-{
-    match u {
-        Turn::Done { two } => two,
-        Turn::Goes { going } => ending(going),
-    }
-}
 
 // Turn after turn from a place on. The rows of areas and symbols are a and s, the images vs and fs.
 fn rounds(
     t: &[u8],
-    start: Going,
+    start: Progress,
     form: Form,
     ended: bool,
     table: &[u8; 2048],
@@ -38,7 +28,7 @@ fn rounds(
     vs: &mut [u8],
     fs: &mut [u8],
     rows: &mut [u32],
-) -> Two
+) -> Paired
     requires { ⌜ (Ready (now t) (now a) start) × (length (now t) ≤ 65536) × (now table ≡ classTable) × (9216 ≤ length (now rows)) × (Columns (now bs) (now ms) (now es) (now xs)) ⌝ }
     ensures { λ r. ⌜ GroupedTwo (onwardAt ended (formOf form) (now (t .entry)) (now (a .entry)) (now (s .entry)) start (now (vs .entry)) (now (fs .entry)) (now (rows .entry))) r (now (vs .exit)) (now (fs .exit)) (now (rows .exit)) ⌝ }
 {
@@ -55,7 +45,7 @@ fn rounds(
 // Group two from a place on. The arrays for a pair's bytes and fragments are made once for all pairs.
 pub(crate) fn group_two(
     t: &[u8],
-    start: Going,
+    start: Progress,
     form: Form,
     ended: bool,
     table: &[u8; 2048],
@@ -64,7 +54,7 @@ pub(crate) fn group_two(
     values: &mut [u8],
     masks: &mut [u8],
     rows: &mut [u32],
-) -> Two
+) -> Paired
     requires { ⌜ (Ready (now t) (now areas) start) × (length (now t) ≤ 65536) × (now table ≡ classTable) × (9216 ≤ length (now rows)) ⌝ }
     ensures { λ r. ⌜ GroupedTwo (onwardAt ended (formOf form) (now (t .entry)) (now (areas .entry)) (now (symbols .entry)) start (now (values .entry)) (now (masks .entry)) (now (rows .entry))) r (now (values .exit)) (now (masks .exit)) (now (rows .exit)) ⌝ }
 {

@@ -2,21 +2,22 @@
 ghost use Prim.Native.Nat.{_≤_};
 ghost use lib.ListN.{length};
 ghost use Rattle.header.specs.Told.{formOf};
+ghost use Rattle.planning.specs.Plan.{startingOf};
 ghost use Rattle.reading.specs.Answer.{held};
-ghost use Rattle.reading.specs.WayIn.{Rooms};
-ghost use Rattle.reading.specs.Laid.{startingOf, Begun, Blank, RestIs};
+ghost use Rattle.way_in.specs.WayIn.{Rooms};
+ghost use Rattle.reading.specs.Laid.{Begun, Blank, RestIs};
 use crate::Answer;
 use crate::answers::accept;
 use crate::answers::counts_of;
 use crate::answers::refuse_two;
-use crate::group_one::Found;
-use crate::plan::Two;
-use crate::rows_out::lay_images;
-use crate::rows_out::lay_tables;
 use crate::second::second_over;
-use crate::second::starting;
-use crate::sizes::Sizes;
-use crate::sizes::sizes_of;
+use layout::lay_images;
+use layout::lay_tables;
+use planning::Paired;
+use planning::starting;
+use tables::Found;
+use tables::Sizes;
+use tables::sizes_of;
 use header::Form;
 
 // Over lent images of zeros. These and the rows are laid over the lent buffers once nothing is refused.
@@ -42,7 +43,7 @@ fn over_images(
     let start = starting(found, sizes.total);
     let mut rows = [0u32; 9216];
     let two = second_over(t, start, form, ended, xs, ys, vs, ms, &mut rows);
-    let Two::All {
+    let Paired::All {
         lines,
         stop,
         fixups: k,
@@ -51,8 +52,18 @@ fn over_images(
         return refuse_two(two);
     };
     let counts = counts_of(found, sizes, lines, k);
-    lay_tables(counts, xs, ys, areas, symbols);
-    lay_images(counts, vs, ms, &rows, values, masks, fixups);
+    lay_tables(found.areas, found.symbols, xs, ys, areas, symbols);
+    lay_images(
+        sizes.total,
+        k,
+        sizes.kept,
+        vs,
+        ms,
+        &rows,
+        values,
+        masks,
+        fixups,
+    );
     accept(counts, t.len(), stop)
 }
 

@@ -5,18 +5,10 @@ ghost use Rattle.reading.specs.Answer.{held, told};
 
 mod answers;
 mod both;
-mod group_one;
 mod group_two;
 mod images;
-mod lines;
-mod pair;
-mod plan;
-mod rows_in;
-mod rows_out;
 mod second;
-mod sizes;
 mod turn;
-mod way_in;
 mod whole;
 
 // How much there is: areas, symbols, T and R pairs, kept areas, positions of their images, fixups.

@@ -1,61 +1,20 @@
-// Group two from its start, over images of as many positions as there are; refusal 9.
+// Group two over images of as many positions as there are.
 ghost use mathlib.Core.Path.{_≡_};
 ghost use Prim.Native.Nat.{_≤_};
 ghost use lib.ListN.{length};
 ghost use Rattle.header.specs.Told.{formOf};
 ghost use Rattle.reading.specs.Onward.{Ready};
-ghost use Rattle.reading.specs.Laid.{goingAt, startingOf, SecondIs};
-use crate::group_one::Found;
+ghost use Rattle.reading.specs.Laid.{SecondIs};
 use crate::group_two::group_two;
-use crate::plan::Going;
-use crate::plan::Standing;
-use crate::plan::Two;
-use crate::plan::ending;
+use planning::Paired;
+use planning::Progress;
+use planning::ending;
 use header::Form;
-use homes::Home;
-
-// Group two before its first pair, over so many positions. The home is that of the index behind the last area, which is none.
-fn going_at(found: Found, positions: usize, on: bool, standing: Standing) -> Going
-    ensures { λ r. ⌜ r ≡ goingAt found positions on standing ⌝ }
-{
-    let home = Home {
-        area: found.areas,
-        id: 0,
-        start: 0,
-        size: 0,
-    };
-    Going {
-        areas: found.areas,
-        symbols: found.symbols,
-        positions: positions,
-        next: found.next,
-        stop: found.stop,
-        lines: 0,
-        on: on,
-        standing: standing,
-        home: home,
-    }
-}
-
-// The same where the kept areas have so many positions in all: 9 is kept if these are too many.
-pub(crate) fn starting(found: Found, total: usize) -> Going
-    ensures { λ r. ⌜ r ≡ startingOf found total ⌝ }
-{
-    if 65536 < total {
-        let nine = Standing::Kept {
-            number: 9,
-            place: 0,
-        };
-        return going_at(found, 0, found.more, nine);
-    }
-    let none = Standing::Made { fixups: 0 };
-    going_at(found, total, found.more, none)
-}
 
 // Group two, if there is one, over images of as many positions as there are.
 fn second(
     t: &[u8],
-    g: Going,
+    g: Progress,
     form: Form,
     ended: bool,
     areas: &[u32],
@@ -63,7 +22,7 @@ fn second(
     values: &mut [u8],
     masks: &mut [u8],
     rows: &mut [u32],
-) -> Two
+) -> Paired
     requires { ⌜ (Ready (now t) (now areas) g) × (length (now t) ≤ 65536) × (9216 ≤ length (now rows)) × (g .positions ≤ length (now values)) × (g .positions ≤ length (now masks)) ⌝ }
     ensures { λ r. ⌜ SecondIs ended (formOf form) (now (t .entry)) (now (areas .entry)) (now (symbols .entry)) g (now (values .entry)) (now (masks .entry)) (now (rows .entry)) r (now (values .exit)) (now (masks .exit)) (now (rows .exit)) ⌝ }
 {
@@ -89,7 +48,7 @@ fn second(
 // The same with the tables and rows in arrays.
 pub(crate) fn second_over(
     t: &[u8],
-    g: Going,
+    g: Progress,
     form: Form,
     ended: bool,
     areas: &[u32; 384],
@@ -97,7 +56,7 @@ pub(crate) fn second_over(
     values: &mut [u8],
     masks: &mut [u8],
     rows: &mut [u32; 9216],
-) -> Two
+) -> Paired
     requires { ⌜ (Ready (now t) (now areas) g) × (length (now t) ≤ 65536) × (9216 ≤ length (now rows)) × (g .positions ≤ length (now values)) × (g .positions ≤ length (now masks)) ⌝ }
     ensures { λ r. ⌜ SecondIs ended (formOf form) (now (t .entry)) (now (areas .entry)) (now (symbols .entry)) g (now (values .entry)) (now (masks .entry)) (now (rows .entry)) r (now (values .exit)) (now (masks .exit)) (now (rows .exit)) ⌝ }
     ensures { λ r. ⌜ length (now (rows .exit)) ≡ length (now (rows .entry)) ⌝ }

@@ -6,20 +6,20 @@ ghost use Rattle.mode.specs.Class.{classTable};
 ghost use Rattle.homes.specs.Home.{homeAt};
 ghost use Rattle.header.specs.Told.{formOf};
 ghost use Rattle.reading.specs.Onward.{standingOf, filledOf, Ready, PlaceReady, Columns, Advances, TurnIs, onwardAt};
-use crate::pair::pair_step;
-use crate::plan::Going;
-use crate::plan::Plan;
-use crate::plan::Standing;
-use crate::plan::Turn;
-use crate::plan::after;
-use crate::plan::plan_of;
-use crate::plan::standing_in;
-use crate::plan::turn_of;
-use header::Form;
 use homes::Home;
-use place::Filled;
-use place::Line;
+use sites::Filled;
+use sites::Line;
 use place::Placed;
+use planning::Plan;
+use planning::Progress;
+use planning::Standing;
+use planning::Turn;
+use planning::after;
+use planning::plan_of;
+use planning::standing_in;
+use planning::turn_of;
+use steps::pair_step;
+use header::Form;
 
 // How placing stands after a pair.
 fn standing_of(r: Placed) -> Standing
@@ -39,7 +39,7 @@ fn standing_of(r: Placed) -> Standing
 }
 
 // How many rows there are.
-fn filled_of(g: Going, fixups: usize) -> Filled
+fn filled_of(g: Progress, fixups: usize) -> Filled
     ensures { λ r. ⌜ r ≡ filledOf g fixups ⌝ }
 {
     Filled {
@@ -50,7 +50,7 @@ fn filled_of(g: Going, fixups: usize) -> Filled
 }
 
 // The home of an area: that of the last pair, if its area is the same.
-fn home_for(areas: &[u32], going: Going, area: usize) -> Home
+fn home_for(areas: &[u32], going: Progress, area: usize) -> Home
     requires { ⌜ going .home ≡ homeAt (now areas) (going .areas) (going .home .area) ⌝ }
     ensures { λ r. ⌜ r ≡ homeAt (now (areas .entry)) (going .areas) area ⌝ }
 {
@@ -64,7 +64,7 @@ fn home_for(areas: &[u32], going: Going, area: usize) -> Home
 // A pair placed, if no refusal is kept.
 fn place_body(
     line: Line,
-    going: Going,
+    going: Progress,
     table: &[u8; 2048],
     bytes: &[u8; 256],
     ms: &[u32; 64],
@@ -106,7 +106,7 @@ fn place_body(
 // One turn: the pair at the place where group two is. What was lent for its bytes and fragments may hold those of the pair before.
 pub(crate) fn take_turn(
     t: &[u8],
-    g: Going,
+    g: Progress,
     form: Form,
     ended: bool,
     table: &[u8; 2048],

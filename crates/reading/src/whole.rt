@@ -3,17 +3,17 @@ ghost use Prim.Native.Nat.{_≤_};
 ghost use lib.ListN.{length};
 ghost use Rattle.format.specs.Held.{Meets};
 ghost use Rattle.reading.specs.Answer.{held, told};
-ghost use Rattle.reading.specs.WayIn.{Rooms};
+ghost use Rattle.way_in.specs.WayIn.{Rooms};
 ghost use Rattle.reading.specs.Laid.{Laid, wholeText, HeaderOnly};
 use crate::Answer;
 use crate::Counts;
 use crate::answers::accept;
 use crate::both::read_lines;
-use crate::lines::record_end;
-use crate::way_in::Gate;
-use crate::way_in::Lent;
-use crate::way_in::admit;
+use steps::record_end;
 use header::Head;
+use way_in::Gate;
+use way_in::Lent;
+use way_in::admit;
 
 // A text of n bytes with a header that ends at a place and no line end behind it.
 fn header_only(ended: bool, n: usize, next: usize) -> Answer

@@ -11,14 +11,17 @@ enum-known-one c = search lines
 enum-told : tie.Need-enum-told
 enum-told c = search lines
 
-refuse-one-requires : tie.Need-refuse-one-requires
-refuse-one-requires c κs = search lines
+enum-known-one-2 : tie.Need-enum-known-one-2
+enum-known-one-2 c = search lines
+
+rest-requires : tie.Need-rest-requires
+rest-requires c κs = (search lines, search lines, search lines, search lines, search lines)
 
 returns : tie.Need-returns
 returns c = search lines
 
-rest-requires : tie.Need-rest-requires
-rest-requires c κs = search lines
+returns-2 : tie.Need-returns-2
+returns-2 c = search lines
 
 same-length : tie.Need-same-length
 same-length c = search lines
@@ -35,8 +38,8 @@ same-length-4 c = search lines
 same-length-5 : tie.Need-same-length-5
 same-length-5 c = search lines
 
-returns-2 : tie.Need-returns-2
-returns-2 c = search lines
+returns-3 : tie.Need-returns-3
+returns-3 c = search lines
 
 pub read-lines-spec : {M : Type 1} → statement M
 read-lines-spec =
@@ -45,12 +48,13 @@ read-lines-spec =
     group-one-requires
     enum-known-one
     enum-told
-    refuse-one-requires
-    returns
+    enum-known-one-2
     rest-requires
+    returns
+    returns-2
     same-length
     same-length-2
     same-length-3
     same-length-4
     same-length-5
-    returns-2)
+    returns-3)

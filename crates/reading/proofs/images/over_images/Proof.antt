@@ -1,5 +1,5 @@
 use borrow.Author.Needs.{needs}
-use Rattle.reading.proofs.Laid.{zeros-9216, fresh-rows, start-ready, start-long, rest-refused, rest-rows, rest-out, rest-done, counts-areas, counts-symbols, counts-kept, counts-fixups}
+use Rattle.reading.proofs.Laid.{zeros-9216, fresh-rows, start-ready, start-long, rest-refused, rest-done}
 use Rattle.reading.proofs.Laid.{rests}
 use Rattle.reading.proofs.images.over_images.Statement.{statement}
 use Rattle.reading.proofs.images.over_images.Tie as tie
@@ -32,10 +32,10 @@ counts-of-requires : tie.Need-counts-of-requires
 counts-of-requires c κs = search rests
 
 lay-tables-requires : tie.Need-lay-tables-requires
-lay-tables-requires c κs = let n = c .before .before in let a = c .before .before .before .before .before .before .before .before .before .before .before .before .before .before .before .before .before .before .before .before .before .before .before in (counts-areas (a .args .found) (n .counts-of .ensures) (a .pre .0), counts-symbols (a .args .found) (n .counts-of .ensures) (a .pre .0))
+lay-tables-requires c κs = search needs
 
 lay-images-requires : tie.Need-lay-images-requires
-lay-images-requires c κs = let a = c .before .before .before .before .before .before .before .before .before .before .before .before .before .before .before .before .before .before .before .before .before .before .before .before .before .before .before .before .before .before .before .before .before .before in let st = c .before .before .before .before .before .before .before .before .before .before .before .before .before .before .before .before .before .before .before .before .before .before .before .before .before in let v = c .before .before .before .before .before .before .before .before .before .before .before .before .before .before .before .before .before .before .before .before .before in let t = c .before .before .before .before .before .before .before .before .before .before .before .before .before .before .before in let n = c .before .before .before .before .before .before .before .before .before .before .before .before .before in (counts-fixups (a .args .found) (n .counts-of .ensures) (rest-rows (a .args .found) (a .pre .0) (st .starting .ensures) (a .pre .2) (a .pre .3) (v .second-over .ensures .0) (t .two .given .1) (v .second-over .ensures .1) zeros-9216), counts-fixups (a .args .found) (n .counts-of .ensures) (rest-out (a .args .found) (a .pre .0) (st .starting .ensures) (a .pre .2) (a .pre .3) (v .second-over .ensures .0) (t .two .given .1) (a .pre .1)), counts-kept (a .args .found) (n .counts-of .ensures) (a .pre .0))
+lay-images-requires c κs = search needs
 
 accept-requires : tie.Need-accept-requires
 accept-requires c κs = search rests
@@ -44,7 +44,7 @@ same-length-3 : tie.Need-same-length-3
 same-length-3 c = let k = c .before .before .before .before .before .before .before .before .before .before .before .before .before .before .before .before .before .before .before .before .before .before .before .before .before .before .before .before .before .second-over .kept .1 .1 .1 .1 .1 .1 .0 in search (needs, k)
 
 same-length-4 : tie.Need-same-length-4
-same-length-4 c = search rests
+same-length-4 c = let k = c .before .before .before .before .before .before .before .before .before .before .before .before .before .before .before .before .before .before .before .before .before .before .before .before .before .before .before .before .before .second-over .kept .1 .1 .1 .1 .1 .1 .1 .0 in search (needs, k)
 
 same-length-5 : tie.Need-same-length-5
 same-length-5 c = search rests
@@ -62,7 +62,7 @@ same-length-9 : tie.Need-same-length-9
 same-length-9 c = search rests
 
 returns-2 : tie.Need-returns-2
-returns-2 c = let a = c .before .before .before .before .before .before .before .before .before .before .before .before .before .before .before .before .before .before .before .before .before .before .before .before .before .before .before .before .before .before .before .before .before .before .before .before .before .before .before .before .before .before in let st = c .before .before .before .before .before .before .before .before .before .before .before .before .before .before .before .before .before .before .before .before .before .before .before .before .before .before .before .before .before .before .before .before .before in let v = c .before .before .before .before .before .before .before .before .before .before .before .before .before .before .before .before .before .before .before .before .before .before .before .before .before .before .before .before .before in rest-done (a .args .found) (a .pre .0) (st .starting .ensures) (a .pre .2) (a .pre .3) (v .second-over .ensures .0) (c .before .before .before .before .before .before .before .before .before .before .before .before .before .before .before .before .before .before .before .before .before .before .before .two .given .1) (c .before .before .before .before .before .before .before .before .before .before .before .before .before .before .before .before .before .before .before .before .before .counts-of .ensures) (a .pre .1) (c .before .before .before .before .before .before .before .before .before .before .before .before .before .before .before .before .before .before .lay-tables .ensures) (c .before .before .before .before .before .before .before .lay-images .ensures) (c .accept .ensures)
+returns-2 c = let a = c .before .before .before .before .before .before .before .before .before .before .before .before .before .before .before .before .before .before .before .before .before .before .before .before .before .before .before .before .before .before .before .before .before .before .before .before .before .before .before .before .before .before in let st = c .before .before .before .before .before .before .before .before .before .before .before .before .before .before .before .before .before .before .before .before .before .before .before .before .before .before .before .before .before .before .before .before .before in let v = c .before .before .before .before .before .before .before .before .before .before .before .before .before .before .before .before .before .before .before .before .before .before .before .before .before .before .before .before .before in rest-done (a .args .found) (a .pre .0) (st .starting .ensures) (a .pre .2) (a .pre .3) (v .second-over .ensures .0) (c .before .before .before .before .before .before .before .before .before .before .before .before .before .before .before .before .before .before .before .before .before .before .before .two .given .1) (c .before .before .before .before .before .before .before .before .before .before .before .before .before .before .before .before .before .before .before .before .before .counts-of .ensures) (a .pre .1) (v .second-over .ensures .1) zeros-9216 (c .before .before .before .before .before .before .before .before .before .before .before .before .before .before .before .before .before .before .lay-tables .ensures) (c .before .before .before .before .before .before .before .lay-images .ensures) (c .accept .ensures)
 
 pub over-images-spec : {M : Type 1} → statement M
 over-images-spec =

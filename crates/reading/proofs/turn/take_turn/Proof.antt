@@ -1,5 +1,5 @@
 use Rattle.reading.proofs.GroupTwo.{turns}
-use Rattle.reading.proofs.GroupTwo.{turn-ready, turn-places, columns-then, lending}
+use Rattle.reading.proofs.GroupTwo.{ready-low, turn-ready, turn-places, columns-then, lending}
 use Rattle.reading.proofs.turn.take_turn.Statement.{statement}
 use Rattle.reading.proofs.turn.take_turn.Tie as tie
 
@@ -22,7 +22,7 @@ returns : tie.Need-returns
 returns c = (search turns, search lending)
 
 place-body-requires : tie.Need-place-body-requires
-place-body-requires c κs = let p = c .before .before .before .before .before .before .before .before in let q = p .before .before in let s = q .before in let a = s .before .before .before .before .before .before .before .before .before .before .before in turn-ready (a .args .form) (a .pre .0) (s .pair-step .ensures .0) (q .plan-of .ensures) (p .plan .given .1) (a .pre .4) (a .pre .2) (a .pre .3)
+place-body-requires c κs = let p = c .before .before .before .before .before .before .before .before in let q = p .before .before in let s = q .before in let a = s .before .before .before .before .before .before .before .before .before .before .before in turn-ready (a .args .form) (a .pre .0) (s .pair-step .ensures .0) (q .plan-of .ensures) (p .plan .given .1) (a .pre .4) (ready-low (a .pre .0) (a .pre .1)) (a .pre .2) (a .pre .3)
 
 same-length : tie.Need-same-length
 same-length c = search turns
@@ -34,7 +34,7 @@ same-length-3 : tie.Need-same-length-3
 same-length-3 c = search turns
 
 returns-2 : tie.Need-returns-2
-returns-2 c = let p = c .before .before .before .before .before .before .before .before .before .before .before .before .before .before .before in let q = p .before .before in let s = q .before in let a = s .before .before .before .before .before .before .before .before .before .before .before in (turn-places (a .args .form) (a .pre .0) (s .pair-step .ensures .0) (q .plan-of .ensures) (p .plan .given .1) (a .pre .4) _ (c .before .before .before .before .before .before .place-body .ensures), columns-then (a .pre .4) (s .pair-step .ensures .1))
+returns-2 c = let p = c .before .before .before .before .before .before .before .before .before .before .before .before .before .before .before in let q = p .before .before in let s = q .before in let a = s .before .before .before .before .before .before .before .before .before .before .before in (turn-places (a .args .form) (a .pre .0) (s .pair-step .ensures .0) (q .plan-of .ensures) (p .plan .given .1) (a .pre .4) (ready-low (a .pre .0) (a .pre .1)) _ (c .before .before .before .before .before .before .place-body .ensures), columns-then _ _ _ (a .pre .4) (s .pair-step .ensures .1))
 
 pub take-turn-spec : {M : Type 1} → statement M
 take-turn-spec =

@@ -1,0 +1,5 @@
+pub mod Entries
+pub mod PairLines
+pub mod PairSteps
+pub mod Stored
+pub mod Unique

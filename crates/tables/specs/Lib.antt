@@ -1,0 +1,2 @@
+pub mod GroupOne
+pub mod Sizes
