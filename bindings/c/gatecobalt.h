@@ -96,10 +96,17 @@ gatecobalt_reading gatecobalt_read_ended(const uint8_t *text, size_t text_length
 /* A text's header. */
 gatecobalt_heading gatecobalt_header(const uint8_t *text, size_t text_length);
 
-/* What the bytes of a fixup refer to where they stand at an address: mode and number are the
- * fixup's, big is the header's. */
+/* What the bytes of a fixup refer to where they stand at an address, as the old tool has it: mode and
+ * number are the fixup's, big is the header's. It is wrong for ACALL, AJMP and relative jumps and
+ * for negative numbers; only a comparison with the old tool should ask it. */
 gatecobalt_targeted gatecobalt_target(uint32_t mode, bool big, uint32_t number, uint64_t address,
     const uint8_t *bytes, size_t bytes_length);
+
+/* The same as the processor has it: this is the one to follow a jump with. Where the number is not 0,
+ * what comes back is the thing that the fixup refers to and not the byte that the jump lands on; the
+ * bits above the low 16 (24 for 19- and 24-bit addresses) are those of the fixup's own address. */
+gatecobalt_targeted gatecobalt_corrected_target(uint32_t mode, bool big, uint32_t number,
+    uint64_t address, const uint8_t *bytes, size_t bytes_length);
 
 /* The widths and rooms above, as the library has them. */
 gatecobalt_row_widths gatecobalt_widths(void);

@@ -25,7 +25,7 @@ mod refusal;
 mod segment;
 
 pub use raw::{rooms, widths, Header, Lent, Rooms, Widths};
-pub use reader::{header, read_into, target, Reader};
+pub use reader::{corrected_target, header, read_into, target, Reader};
 pub use reading::{Area, Counts, FixupRow, Kept, Reading, Symbol, Verdict};
 pub use refusal::Refusal;
 pub use segment::{Fixup, Reference, Segment};

@@ -123,6 +123,15 @@ extern "C" {
         bytes: *const u8,
         bytes_len: usize,
     ) -> TargetNumbers;
+    /// The target of a fixup that agrees with the processor.
+    fn gatecobalt_corrected_target(
+        mode: u32,
+        big: bool,
+        number: u32,
+        address: u64,
+        bytes: *const u8,
+        bytes_len: usize,
+    ) -> TargetNumbers;
     /// Numbers in a row of each table.
     fn gatecobalt_widths() -> Widths;
     /// The longest text, and the room of each lent buffer.
@@ -181,6 +190,19 @@ pub(crate) fn target(
 ) -> TargetNumbers {
     // SAFETY: numbers, and one slice that is read.
     unsafe { gatecobalt_target(mode, big, number, address, bytes.as_ptr(), bytes.len()) }
+}
+
+/// The target of a fixup that agrees with the processor.
+pub(crate) fn corrected_target(
+    mode: u32,
+    big: bool,
+    number: u32,
+    address: u64,
+    bytes: &[u8],
+) -> TargetNumbers {
+    let (start, length) = (bytes.as_ptr(), bytes.len());
+    // SAFETY: numbers, and one slice that is read.
+    unsafe { gatecobalt_corrected_target(mode, big, number, address, start, length) }
 }
 
 /// Numbers in a row of each table.

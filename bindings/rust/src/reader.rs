@@ -94,8 +94,8 @@ pub fn header(text: &[u8]) -> Result<Header, Refusal> {
     Ok(header)
 }
 
-/// The target of a fixup: the bytes on site and their address in, what they refer to out; or
-/// refusal 14.
+/// The target of a fixup, as the old tool has it: the bytes on site and their address in, what they
+/// refer to out; or refusal 14.
 pub fn target(
     mode: u32,
     big: bool,
@@ -103,7 +103,28 @@ pub fn target(
     address: u64,
     bytes: &[u8],
 ) -> Result<u64, Refusal> {
-    let told = raw::target(mode, big, number, address, bytes);
+    answer(raw::target(mode, big, number, address, bytes))
+}
+
+/// The target of a fixup, as the processor has it: the one to follow a jump with; or refusal 14.
+///
+/// ```
+/// // An ACALL at 1000.
+/// assert_eq!(gatecobalt::corrected_target(0x08, true, 0, 0x1000, &[0x71, 0x23]), Ok(0x1323));
+/// assert_eq!(gatecobalt::target(0x08, true, 0, 0x1000, &[0x71, 0x23]), Ok(0x1023));
+/// ```
+pub fn corrected_target(
+    mode: u32,
+    big: bool,
+    number: u32,
+    address: u64,
+    bytes: &[u8],
+) -> Result<u64, Refusal> {
+    answer(raw::corrected_target(mode, big, number, address, bytes))
+}
+
+/// A target, or the refusal that the numbers tell.
+fn answer(told: raw::TargetNumbers) -> Result<u64, Refusal> {
     if told.refusal != 0 {
         return Err(Refusal { number: told.refusal, place: 0 });
     }

@@ -1,6 +1,6 @@
 //! What was read, in the shape of the old module: segments with content and mask, absolute or
 //! relocatable, fixups with a target function and a reference, and public symbols.
-use crate::reader::target;
+use crate::reader::{corrected_target, target};
 use crate::reading::{FixupRow, Kept, Reading};
 use crate::refusal::Refusal;
 
@@ -39,11 +39,19 @@ impl Fixup {
         Fixup { position, size, reference, mode, number, big }
     }
 
-    /// What the bytes on site refer to where they stand at an address, or refusal 14 if they are
-    /// fewer than the fixup's size.
+    /// What the bytes on site refer to where they stand at an address, as the old module has it (which
+    /// is wrong for short and relative jumps); or refusal 14 if they are fewer than the fixup's size.
     pub fn target(&self, bytes: &[u8], address: usize) -> Result<usize, Refusal> {
         let address = address as u64;
         target(self.mode, self.big, self.number, address, bytes).map(|target| target as usize)
+    }
+
+    /// What the bytes on site refer to where they stand at an address, as the processor has it: the one
+    /// to follow a jump with. Where the number is not 0 this is the thing that the fixup refers to, and
+    /// not the byte that the jump lands on; the bits above the block are the address's own.
+    pub fn corrected_target(&self, bytes: &[u8], address: usize) -> Result<usize, Refusal> {
+        let Fixup { mode, big, number, .. } = *self;
+        corrected_target(mode, big, number, address as u64, bytes).map(|target| target as usize)
     }
 
     /// The target function alone, as the old module hands it over. As there, it panics if it is

@@ -1,4 +1,4 @@
-// What C and Rust link: both readings, the target of a fixup, and how much a caller has to lend,
+// What C and Rust link: both readings, both targets of a fixup, and how much a caller has to lend,
 // over numbers and slices. Every function answers for every input; none asks anything of its caller.
 mod answers;
 mod readings;
@@ -7,6 +7,7 @@ ghost use mathlib.Core.Path.{_≡_};
 ghost use mathlib.Core.Bool.{true, false};
 ghost use Rattle.format.specs.Header.{header};
 ghost use Rattle.format.specs.Target as the;
+ghost use Rattle.format.specs.Corrected.{corrected};
 ghost use Rattle.reading.specs.Answer.{held};
 ghost use Rattle.exports.specs.Numbers.{Answers, headerNumbers, rooms, targetNumbers, widths};
 pub use answers::HeaderNumbers;
@@ -85,6 +86,20 @@ pub extern "C" fn gatecobalt_target(
     ensures { λ r. ⌜ r ≡ targetNumbers (the.target big mode number (now (bytes .entry)) address) ⌝ }
 {
     target_numbers(target::target(mode, big, number, address, bytes))
+}
+
+// The target that agrees with the processor, asked as the ported one above.
+#[no_mangle]
+pub extern "C" fn gatecobalt_corrected_target(
+    mode: u32,
+    big: bool,
+    number: u32,
+    address: u64,
+    bytes: &[u8],
+) -> TargetNumbers
+    ensures { λ r. ⌜ r ≡ targetNumbers (corrected big mode number (now (bytes .entry)) address) ⌝ }
+{
+    target_numbers(target::corrected_target(mode, big, number, address, bytes))
 }
 
 // Numbers in a row of each table.

@@ -15,6 +15,7 @@ pub mod WorkLine
 pub mod Fixups
 pub mod Placing
 pub mod Target
+pub mod Corrected
 pub mod Rows
 pub mod Reading
 pub mod Held

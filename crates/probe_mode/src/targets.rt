@@ -1,9 +1,10 @@
-// Targets: one, one with a lent table of class numbers, and a row of them.
+// Targets: one, a corrected one, one with a lent table of class numbers, and a row of them.
 use target::Answer;
 ghost use mathlib.Core.Path.{_≡_};
 ghost use Prim.Native.Nat.{_%_, min};
 ghost use lib.ListN.{getD, set};
 ghost use Rattle.format.specs.Target.{target};
+ghost use Rattle.format.specs.Corrected.{corrected};
 ghost use Rattle.mode.specs.Class.{classNamed};
 ghost use Rattle.target.specs.Target.{targetBy, told};
 ghost use Rattle.probe_mode.specs.Probe.{RowThere, Rows, rowTarget, rowsIn, targetAnswer};
@@ -46,6 +47,21 @@ pub extern "C" fn probe_target(
     ensures { λ r. ⌜ r ≡ targetAnswer (target big mode number (now (bytes .entry)) address) ⌝ }
 {
     let answer = target::target(mode, big, number, address, bytes);
+    target_answer(answer)
+}
+
+// The corrected target.
+#[no_mangle]
+pub extern "C" fn probe_corrected(
+    mode: u32,
+    big: bool,
+    number: u32,
+    address: u64,
+    bytes: &[u8],
+) -> TargetAnswer
+    ensures { λ r. ⌜ r ≡ targetAnswer (corrected big mode number (now (bytes .entry)) address) ⌝ }
+{
+    let answer = target::corrected_target(mode, big, number, address, bytes);
     target_answer(answer)
 }
 

@@ -1,6 +1,6 @@
 -- The target whole: the steps one after the other, what is refused, and the class out of the table.
 -- Assumes nothing.
-use Prim.Native.Nat.{ℕ, _%_, _<_, _^_, _≤_}
+use Prim.Native.Nat.{ℕ, _%_, _*_, _/_, _≤_}
 use mathlib.Core.Path.{_≡_, refl, ap, _∙_}
 use mathlib.Core.Bool.{Bool, false, not, true}
 use mathlib.Core.List.{List}
@@ -14,8 +14,9 @@ use Rattle.mode.specs.declared.row.Row.{Row}
 use Rattle.mode.specs.Class.{classNamed, classTable}
 use Rattle.mode.specs.Row.{rowOf}
 use Rattle.mode.proofs.ClassLaws.{table-names}
-use Rattle.target.specs.Target.{allowed, reachedBy, relativeOf, targetBy}
+use Rattle.target.specs.Target.{allowed, reachedBy, relativeOf, startBy, targetBy}
 use Rattle.target.proofs.AskedLaws.{bytes-there}
+use Rattle.target.proofs.StartLaws.{first-byte}
 
 -- the bits are small
 high-at-most : (c : Class) → high c ≤ 23
@@ -53,6 +54,15 @@ module _ (c : Class) {row : Row} (e : row ≡ rowOf c) where
 pub tested-small : (c : Class) (three : Bool) {h : ℕ} → h ≡ numberBit c three → h ≤ 23
 tested-small c three e = rw e (tested-at-most c three)
 
+-- the opcode's three bits as the source has them
+ported-start : (c : Class) (big : Bool) (bs : List ℕ) → startBy (getD bs 0 0 / 32 * 32) c big bs ≡ startOf c big bs
+ported-start Addr19 big bs = refl
+ported-start Addr11 big bs = refl
+ported-start Addr24 big bs = refl
+ported-start Addr16 big bs = refl
+ported-start Byte big bs = refl
+ported-start Other big bs = refl
+
 -- the steps, one after the other
 module _ (c : Class) (big : Bool) (m n : ℕ) (bs : List ℕ) (a : ℕ) where
   steps : {b₄ b₈ : Bool} {g k h s s′ w n′ d t r : ℕ}
@@ -61,11 +71,12 @@ module _ (c : Class) (big : Bool) (m n : ℕ) (bs : List ℕ) (a : ℕ) where
   unfolding reachedBy
   steps eg ek e₄ e₈ eh es es′ ew en ed et e = cc
 
-  pub reaches : {row : Row} {b₄ b₈ : Bool} {h s s′ w n′ d t r : ℕ}
-      → row ≡ rowOf c → b₄ ≡ bit 4 m → b₈ ≡ bit 8 m → h ≡ numberBit c b₈ → s ≡ startOf c big bs → s′ ≡ signedStart (not b₄) (row .high) s
+  pub reaches : {row : Row} {b₄ b₈ : Bool} {h o s s′ w n′ d t r : ℕ}
+      → row ≡ rowOf c → b₄ ≡ bit 4 m → b₈ ≡ bit 8 m → h ≡ numberBit c b₈ → o ≡ getD bs 0 0 → s ≡ startBy (o / 32 * 32) c big bs → s′ ≡ signedStart (not b₄) (row .high) s
       → w ≡ n → n′ ≡ signedNumber (not b₄) h w → d ≡ wrapSub s′ n′ → t ≡ relativeOf c m d a → r ≡ near (row .closing) t a
       → r ≡ reachedBy c big m n bs a
-  reaches er = steps (ap (λ (r : Row). r .high) er) (ap (λ (r : Row). r .closing) er)
+  reaches er e₄ e₈ eh eo es =
+      steps (ap (λ (r : Row). r .high) er) (ap (λ (r : Row). r .closing) er) e₄ e₈ eh (es ∙ (rw eo (ported-start c big bs)))
 
   -- 14, or the target
   pub refuses : {o : Outcome ℕ} {b : Bool} → b ≡ allowed c m n (length bs) → b ≡ false → o ≡ refused 14 0 → o ≡ targetBy c big m n bs a
@@ -85,4 +96,4 @@ module _ (big : Bool) (m n : ℕ) (bs : List ℕ) (a : ℕ) where
   unfolding target targetOf targetBy allowed reachedBy relativeOf onSite
   by-the-table e f = (rw (e, table-names m) at f) ∙ refl
 
-pub ruleset targets = (needs, high-small, closing-small, tested-small, reaches, refuses, bytes-there, target-at, by-table, by-the-table)
+pub ruleset targets = (needs, first-byte, high-small, closing-small, tested-small, reaches, refuses, bytes-there, target-at, by-table, by-the-table)

@@ -18,7 +18,7 @@ use borrow.Author.Tests.{eq-eqb, ne-eqb}
 use Rattle.format.specs.Lists.{pick}
 use Rattle.format.specs.Number.{join}
 use Rattle.format.specs.Mode.{bit, sizeOf}
-use Rattle.format.specs.Target.{block, inBlock, near, numberBit, signedNumber, signedStart, startOf, twoShifted, wrapAdd, wrapSub}
+use Rattle.format.specs.Target.{block, inBlock, near, numberBit, signedNumber, signedStart, twoShifted, wrapAdd, wrapSub}
 use Rattle.laws.proofs.Parts.{part-end}
 use Rattle.mode.specs.declared.class.JumpType.{JumpType}
 use Rattle.mode.specs.declared.class.JumpType.the-variants.{Addr11, Addr16, Addr19, Addr24, Byte, Other}
@@ -26,7 +26,7 @@ use Rattle.mode.specs.declared.row.Row.{Row}
 use Rattle.mode.specs.Class.{toldClass}
 use Rattle.mode.specs.Row.{rowOf}
 use Rattle.mode.proofs.class.JumpType.{the-type}
-use Rattle.target.specs.Target.{relativeOf, shiftedLeft, shiftedRight}
+use Rattle.target.specs.Target.{relativeOf, shiftedLeft, shiftedRight, startBy}
 
 -- the bytes that a class leaves on site
 pub first-byte : (c : JumpType) {n : ℕ} → sizeOf (toldClass c) ≤ n → 0 < n
@@ -41,24 +41,24 @@ pub second-byte : {c : JumpType} {n : ℕ} → c ≡ Addr11 → sizeOf (toldClas
 second-byte e h = rw e at h
 
 -- the start, class by class
-module _ {c : JumpType} (big : Bool) (bs : List ℕ) where
-  pub start-addr19 : {a w j : ℕ} → c ≡ Addr19 → a ≡ getD bs 0 0 → w ≡ j → j ≡ join big (take (min 2 4) (take (length bs - 1) (drop 1 bs)))
-      → a / 32 * 32 * 65536 + w ≡ startOf (toldClass c) big bs
-  start-addr19 e ea ew ej = rw (e, ea, ew, ej, part-end 1 bs)
+module _ {c : JumpType} (op : ℕ) (big : Bool) (bs : List ℕ) where
+  pub start-addr19 : {w j : ℕ} → c ≡ Addr19 → w ≡ j → j ≡ join big (take (min 2 4) (take (length bs - 1) (drop 1 bs)))
+      → op * 65536 + w ≡ startBy op (toldClass c) big bs
+  start-addr19 e ew ej = rw (e, ew, ej, part-end 1 bs)
 
-  pub start-addr11 : {a b : ℕ} → c ≡ Addr11 → a ≡ getD bs 0 0 → b ≡ getD bs 1 0 → a / 32 * 32 * 256 + b ≡ startOf (toldClass c) big bs
-  start-addr11 e ea eb = rw (e, ea, eb)
+  pub start-addr11 : {b : ℕ} → c ≡ Addr11 → b ≡ getD bs 1 0 → op * 256 + b ≡ startBy op (toldClass c) big bs
+  start-addr11 e eb = rw (e, eb)
 
-  pub start-addr24 : {w j : ℕ} → c ≡ Addr24 → w ≡ j → j ≡ join big (take (min 3 4) bs) → w ≡ startOf (toldClass c) big bs
+  pub start-addr24 : {w j : ℕ} → c ≡ Addr24 → w ≡ j → j ≡ join big (take (min 3 4) bs) → w ≡ startBy op (toldClass c) big bs
   start-addr24 e ew ej = rw (e, ew, ej)
 
-  pub start-addr16 : {w j : ℕ} → c ≡ Addr16 → w ≡ j → j ≡ join big (take (min 2 4) bs) → w ≡ startOf (toldClass c) big bs
+  pub start-addr16 : {w j : ℕ} → c ≡ Addr16 → w ≡ j → j ≡ join big (take (min 2 4) bs) → w ≡ startBy op (toldClass c) big bs
   start-addr16 e ew ej = rw (e, ew, ej)
 
-  pub start-byte : {a : ℕ} → c ≡ Byte → a ≡ getD bs 0 0 → a ≡ startOf (toldClass c) big bs
+  pub start-byte : {a : ℕ} → c ≡ Byte → a ≡ getD bs 0 0 → a ≡ startBy op (toldClass c) big bs
   start-byte e ea = rw (e, ea)
 
-  pub start-other : c ≡ Other → 0 ≡ startOf (toldClass c) big bs
+  pub start-other : c ≡ Other → 0 ≡ startBy op (toldClass c) big bs
   start-other e = rw e
 
 -- shifts by a small count

@@ -1,12 +1,13 @@
 -- The target by a class that is given, step by step as the code goes; at the mode's own class it is the definition's target.
 -- Assumes nothing.
-use Prim.Native.Nat.{ℕ, _%_, _*_, _/_, _^_}
+use Prim.Native.Nat.{ℕ, _%_, _*_, _+_, _/_, _^_}
 use mathlib.Core.Bool.{Bool, not, _&&_}
 use mathlib.Core.List.{List}
 use lib.Dec.{leb, ltb}
-use lib.ListN.{length}
+use lib.ListN.{drop, getD, length, take}
 use Rattle.format.specs.Lists.{pick}
-use Rattle.format.specs.Mode.{Class, bit, sizeOf}
+use Rattle.format.specs.Number.{join}
+use Rattle.format.specs.Mode.{Addr11, Addr16, Addr19, Addr24, Byte, Class, Other, bit, sizeOf}
 use Rattle.format.specs.Outcome.{Outcome, fine, refused}
 use Rattle.format.specs.Target.{closing, high, inBlock, near, numberBit, signedNumber, signedStart, startOf, wrapAdd, wrapSub}
 use Rattle.target.specs.declared.answer.Answer.{Answer}
@@ -23,6 +24,15 @@ shiftedLeft x k = x * 2 ^ (k % 64) % 2 ^ 64
 
 unfoldable pub shiftedRight : ℕ → ℕ → ℕ
 shiftedRight x k = x / 2 ^ (k % 64)
+
+-- the bytes on site, with what the opcode of a short jump gives above the others
+abbrev pub startBy : (opcode : ℕ) → Class → Bool → List ℕ → ℕ
+startBy op Addr19 big bs = op * 65536 + join big (take 2 (drop 1 bs))
+startBy op Addr11 big bs = op * 256 + getD bs 1 0
+startBy op Addr24 big bs = join big (take 3 bs)
+startBy op Addr16 big bs = join big (take 2 bs)
+startBy op Byte big bs = getD bs 0 0
+startBy op Other big bs = 0
 
 -- what is left of t once the address is taken off, or what it is in its block
 unfoldable pub relativeOf : Class → (m t addr : ℕ) → ℕ

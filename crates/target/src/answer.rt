@@ -1,6 +1,7 @@
 // The target of a fixup, or refusal 14.
 use crate::asked::is_allowed;
 use crate::asked::refused;
+use crate::start::byte_at;
 use crate::start::has;
 use crate::start::near;
 use crate::start::number_bit;
@@ -33,7 +34,8 @@ fn reached(class: JumpType, mode: u32, big: bool, number: u32, address: u64, byt
     let row = mode::row_of(class);
     let signed = !has(mode, 4);
     let tested = number_bit(class, has(mode, 8));
-    let s = signed_start(signed, row.high, start(class, big, bytes));
+    let opcode = byte_at(bytes, 0) / 32 * 32;
+    let s = signed_start(signed, row.high, start(class, big, opcode, bytes));
     let n = signed_number(signed, tested, wide(number));
     let t = relative(class, mode, sub64(s, n), address);
     near(row.closing, t, address)

@@ -11,7 +11,7 @@ ghost use Rattle.format.specs.Lists.{pick};
 ghost use Rattle.format.specs.Mode.{bit, sizeOf};
 ghost use Rattle.format.specs.Target as defs;
 ghost use Rattle.mode.specs.Class.{toldClass};
-ghost use Rattle.target.specs.Target.{relativeOf};
+ghost use Rattle.target.specs.Target.{relativeOf, startBy};
 
 // Whether bit k of a mode is set.
 pub(crate) fn has(mode: u32, k: u32) -> bool
@@ -22,7 +22,7 @@ pub(crate) fn has(mode: u32, k: u32) -> bool
 }
 
 // A byte on site.
-fn byte_at(bytes: &[u8], i: usize) -> u64
+pub(crate) fn byte_at(bytes: &[u8], i: usize) -> u64
     requires { ⌜ i < length (now bytes) ⌝ }
     ensures { λ r. ⌜ (r ≡ getD (now (bytes .entry)) i 0) × (r < 256) ⌝ }
 {
@@ -43,17 +43,15 @@ pub(crate) fn wide(x: u32) -> u64
     x as u64
 }
 
-// The start: the bytes on site, without their sign.
-pub(crate) fn start(class: JumpType, big: bool, bytes: &[u8]) -> u64
+// The start: the bytes on site, without their sign. Above the other bytes of the two short jumps stands what their opcode gives.
+pub(crate) fn start(class: JumpType, big: bool, opcode: u64, bytes: &[u8]) -> u64
+    requires { ⌜ opcode < 256 ⌝ }
     requires { ⌜ sizeOf (toldClass class) ≤ length (now bytes) ⌝ }
-    ensures { λ r. ⌜ r ≡ defs.startOf (toldClass class) big (now (bytes .entry)) ⌝ }
+    ensures { λ r. ⌜ r ≡ startBy opcode (toldClass class) big (now (bytes .entry)) ⌝ }
 {
     match class {
-        JumpType::Addr19 => {
-            byte_at(bytes, 0) / 32 * 32 * 0x1_0000
-                + wide(mode::endian_to_number(big, &bytes[1..], 2))
-        }
-        JumpType::Addr11 => byte_at(bytes, 0) / 32 * 32 * 256 + byte_at(bytes, 1),
+        JumpType::Addr19 => opcode * 0x1_0000 + wide(mode::endian_to_number(big, &bytes[1..], 2)),
+        JumpType::Addr11 => opcode * 256 + byte_at(bytes, 1),
         JumpType::Addr24 => wide(mode::endian_to_number(big, bytes, 3)),
         JumpType::Addr16 => wide(mode::endian_to_number(big, bytes, 2)),
         JumpType::Byte => byte_at(bytes, 0),
@@ -61,7 +59,7 @@ pub(crate) fn start(class: JumpType, big: bool, bytes: &[u8]) -> u64
     }
 }
 
-// A start, less twice its sign bit where the mode is signed and that bit is set.
+// A start, or a number of the corrected target, less twice its sign bit where the mode is signed and that bit is set.
 pub(crate) fn signed_start(signed: bool, high: u64, t: u64) -> u64
     requires { ⌜ high ≤ 23 ⌝ }
     ensures { λ r. ⌜ r ≡ defs.signedStart signed high t ⌝ }
@@ -103,7 +101,7 @@ pub(crate) fn number_bit(class: JumpType, three: bool) -> u64
 }
 
 // The low bits of a target, and the next five of the address behind the instruction, for the classes that jump inside a block.
-fn in_block(class: JumpType, t: u64, address: u64) -> u64
+pub(crate) fn in_block(class: JumpType, t: u64, address: u64) -> u64
     ensures { λ r. ⌜ r ≡ defs.inBlock (toldClass class) t address ⌝ }
 {
     match class {
@@ -114,7 +112,7 @@ fn in_block(class: JumpType, t: u64, address: u64) -> u64
 }
 
 // How far behind the address a relative target counts.
-fn step_back(mode: u32) -> u64
+pub(crate) fn behind(mode: u32) -> u64
     ensures { λ r. ⌜ r ≡ pick (bit 0 mode) 1 2 ⌝ }
 {
     if has(mode, 0) { 1 } else { 2 }
@@ -125,7 +123,7 @@ pub(crate) fn relative(class: JumpType, mode: u32, t: u64, address: u64) -> u64
     ensures { λ r. ⌜ r ≡ relativeOf (toldClass class) mode t address ⌝ }
 {
     if has(mode, 2) {
-        sub64(t, add64(address, step_back(mode)))
+        sub64(t, add64(address, behind(mode)))
     } else {
         in_block(class, t, address)
     }

@@ -1,6 +1,7 @@
 //! The comparisons. Each prints how many inputs it had and how many differed.
 use crate::cases::{self, Case, Parts, Random};
 use crate::port::{self, Step, Table, Target};
+use crate::rule;
 
 /// Counts what was compared, and shows the first differences.
 struct Tally {
@@ -159,6 +160,40 @@ fn refusals(random: &mut Random, table: &Table) -> bool {
     tally.end()
 }
 
+/// Corrected targets of random cases against the rule's second writing: 10,240,000 of as many bytes as
+/// the size says or more, and some of fewer bytes or with a mode or a number that is refused.
+fn corrected(random: &mut Random) -> bool {
+    let mut tally = Tally::new("corrected targets, against the second writing");
+    let mut refused = Tally::new("refused corrected targets, against the second writing");
+    for (mode, big) in modes() {
+        for turn in 0..2500 {
+            let Case { number, address, bytes, .. } = Case::random(random, mode, big);
+            let length = port::size(mode).max(turn % 5);
+            same(&mut tally, mode.into(), big, number, address, &bytes[..length]);
+        }
+        let Case { number, address, bytes, .. } = Case::random(random, mode, big);
+        let over = u32::from(mode) + 2048 * (1 + random.below(1 << 20) as u32);
+        let large = number | 1 << (24 + random.below(8));
+        same(&mut refused, over, big, number, address, &bytes);
+        same(&mut refused, mode.into(), big, large, address, &bytes);
+        let short = &bytes[..port::size(mode) - 1];
+        same(&mut refused, mode.into(), big, number, address, short);
+    }
+    tally.end() & refused.end()
+}
+
+/// One corrected target against the rule's.
+fn same(tally: &mut Tally, mode: u32, big: bool, number: u32, address: u64, bytes: &[u8]) {
+    let found = port::corrected(mode, big, number, address, bytes);
+    let refused = Target { refused: 14, place: 0, address: 0 };
+    let expected = rule::corrected(mode, big, number, address, bytes).map_or(refused, at);
+    tally.add(found == expected, || {
+        format!(
+            "{mode:X} {big} {number:X} {address:X} {bytes:X?}: {found:X?} and not {expected:X?}"
+        )
+    });
+}
+
 /// Everything; ends the program with 1 where anything differed.
 pub fn all(seed: u64) {
     let random = &mut Random::new(seed);
@@ -168,7 +203,8 @@ pub fn all(seed: u64) {
         & edges(random, &table)
         & alone(random)
         & rows(random)
-        & refusals(random, &table);
+        & refusals(random, &table)
+        & corrected(random);
     if !same {
         std::process::exit(1);
     }

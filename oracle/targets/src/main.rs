@@ -1,9 +1,10 @@
-//! Holds the port's modes and targets against the unchanged Rust's, times both, and records a
-//! sample of the Rust's answers.
+//! Holds the port's modes and targets against the unchanged Rust's, and its corrected targets against a
+//! second writing of their rule, times them, and records a sample of the Rust's answers.
 mod cases;
 mod compare;
 mod port;
 mod record;
+mod rule;
 mod time;
 
 /// The sub-command and the seed.

@@ -44,6 +44,14 @@ mod archive {
             bytes: *const u8,
             length: usize,
         ) -> Target;
+        pub fn probe_corrected(
+            mode: u32,
+            big: bool,
+            number: u32,
+            address: u64,
+            bytes: *const u8,
+            length: usize,
+        ) -> Target;
         pub fn probe_target_in(
             table: *const Table,
             mode: u32,
@@ -111,6 +119,11 @@ pub fn step(
 /// The target, with the table made inside.
 pub fn target(mode: u32, big: bool, number: u32, address: u64, bytes: &[u8]) -> Target {
     unsafe { archive::probe_target(mode, big, number, address, bytes.as_ptr(), bytes.len()) }
+}
+
+/// The corrected target.
+pub fn corrected(mode: u32, big: bool, number: u32, address: u64, bytes: &[u8]) -> Target {
+    unsafe { archive::probe_corrected(mode, big, number, address, bytes.as_ptr(), bytes.len()) }
 }
 
 /// The target by a lent table.

@@ -47,6 +47,12 @@ fn targets(random: &mut Random) {
             black_box(port::target_in(&table, mode.into(), big, number, address, &bytes));
         }
     });
+    rounds("corrected target, port", || {
+        for case in &cases {
+            let Case { mode, big, number, address, bytes } = *case;
+            black_box(port::corrected(mode.into(), big, number, address, &bytes));
+        }
+    });
     rounds("target, port, in rows", || {
         black_box(port::targets(true, &modes, &numbers, &addresses, &bytes, &mut out));
     });

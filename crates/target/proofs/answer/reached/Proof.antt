@@ -4,6 +4,7 @@ use Rattle.target.proofs.answer.reached.Tie as tie
 use Rattle.target.proofs.answer.reached.Reads as reads
 use Rattle.target.proofs.answer.reached.Lts as lts
 use Rattle.mode.proofs.row_of.Reads as row-of-reads
+use Rattle.target.proofs.start.byte_at.Reads as byte-at-reads
 use Rattle.target.proofs.start.has.Reads as has-reads
 use Rattle.target.proofs.start.near.Reads as near-reads
 use Rattle.target.proofs.start.number_bit.Reads as number-bit-reads
@@ -25,6 +26,12 @@ has-requires-2 c κs = search targets
 
 number-bit-requires : tie.Need-number-bit-requires
 number-bit-requires c κs = search targets
+
+byte-at-requires : tie.Need-byte-at-requires
+byte-at-requires c κs = search targets
+
+mul-opcode : tie.Need-mul-opcode
+mul-opcode c = search targets
 
 start-requires : tie.Need-start-requires
 start-requires c κs = search targets
@@ -58,6 +65,8 @@ reached-spec =
     has-requires
     has-requires-2
     number-bit-requires
+    byte-at-requires
+    mul-opcode
     start-requires
     signed-start-requires
     wide-requires

@@ -5,15 +5,15 @@ use Rattle.target.proofs.start.relative.Reads as reads
 use Rattle.target.proofs.start.relative.Lts as lts
 use Rattle.target.proofs.start.has.Reads as has-reads
 use Rattle.target.proofs.start.in_block.Reads as in-block-reads
-use Rattle.target.proofs.start.step_back.Reads as step-back-reads
+use Rattle.target.proofs.start.behind.Reads as behind-reads
 use Rattle.target.proofs.word.add64.Reads as add64-reads
 use Rattle.target.proofs.word.sub64.Reads as sub64-reads
 
 has-requires : tie.Need-has-requires
 has-requires c κs = search closing
 
-step-back-requires : tie.Need-step-back-requires
-step-back-requires c κs = search closing
+behind-requires : tie.Need-behind-requires
+behind-requires c κs = search closing
 
 add64-requires : tie.Need-add64-requires
 add64-requires c κs = search closing
@@ -35,7 +35,7 @@ relative-spec =
     tie.close
     (tie.spec
     has-requires
-    step-back-requires
+    behind-requires
     add64-requires
     sub64-requires
     in-block-requires

@@ -10,14 +10,8 @@ use Rattle.target.proofs.start.wide.Reads as wide-reads
 enum-told : tie.Need-enum-told
 enum-told c = search starting
 
-byte-at-requires : tie.Need-byte-at-requires
-byte-at-requires c κs = search starting
-
 mul-result : tie.Need-mul-result
 mul-result c = search starting
-
-mul-result-2 : tie.Need-mul-result-2
-mul-result-2 c = search starting
 
 sub-endian-to-number : tie.Need-sub-endian-to-number
 sub-endian-to-number c = search starting
@@ -40,17 +34,11 @@ add-result c = search starting
 enum-told-2 : tie.Need-enum-told-2
 enum-told-2 c = search starting
 
-byte-at-requires-2 : tie.Need-byte-at-requires-2
-byte-at-requires-2 c κs = search starting
+mul-result-2 : tie.Need-mul-result-2
+mul-result-2 c = search starting
 
-mul-result-3 : tie.Need-mul-result-3
-mul-result-3 c = search starting
-
-mul-result-4 : tie.Need-mul-result-4
-mul-result-4 c = search starting
-
-byte-at-requires-3 : tie.Need-byte-at-requires-3
-byte-at-requires-3 c κs = search starting
+byte-at-requires : tie.Need-byte-at-requires
+byte-at-requires c κs = search starting
 
 add-result-2 : tie.Need-add-result-2
 add-result-2 c = search starting
@@ -76,8 +64,8 @@ wide-requires-3 c κs = search starting
 enum-told-5 : tie.Need-enum-told-5
 enum-told-5 c = search starting
 
-byte-at-requires-4 : tie.Need-byte-at-requires-4
-byte-at-requires-4 c κs = search starting
+byte-at-requires-2 : tie.Need-byte-at-requires-2
+byte-at-requires-2 c κs = search starting
 
 enum-told-6 : tie.Need-enum-told-6
 enum-told-6 c = search starting
@@ -105,9 +93,7 @@ start-spec =
     tie.close
     (tie.spec
     enum-told
-    byte-at-requires
     mul-result
-    mul-result-2
     sub-endian-to-number
     part-endian-to-number-start
     part-endian-to-number-end
@@ -115,10 +101,8 @@ start-spec =
     wide-requires
     add-result
     enum-told-2
-    byte-at-requires-2
-    mul-result-3
-    mul-result-4
-    byte-at-requires-3
+    mul-result-2
+    byte-at-requires
     add-result-2
     enum-told-3
     endian-to-number-requires-2
@@ -127,7 +111,7 @@ start-spec =
     endian-to-number-requires-3
     wide-requires-3
     enum-told-5
-    byte-at-requires-4
+    byte-at-requires-2
     enum-told-6
     returns
     returns-2
