@@ -2,8 +2,8 @@
 //! inside the cut give, and is called finished exactly at a record's end.
 use crate::check::Checker;
 use crate::counts::Counts;
-use crate::lent::{Read, Rows};
-use gatecobalt::{Refusal, Verdict};
+use crate::lent::{Read, Reading, Rows, Verdict};
+use gatecobalt::{Refusal, Refused};
 use oracle::{expected, places, read};
 
 /// The rows of one reading, kept.
@@ -55,7 +55,7 @@ fn record_ends(text: &[u8]) -> Option<Vec<usize>> {
 impl Checker {
     /// The ended reading of the part up to a record's end, held against the Rust.
     fn at_end(&mut self, part: &[u8], counts: &mut Counts) -> Result<Read, &'static str> {
-        let got = self.buffers.read(true, part, 5)?;
+        let got = self.buffers.read(Reading::Ended, part, 5)?;
         let answer = read(part);
         let told = expected(part, &answer);
         if matches!(got, Ok((_, verdict)) if verdict != Verdict::Finished) {
@@ -79,7 +79,7 @@ impl Checker {
         let told = whole.map(|(found, _)| (found, Verdict::Stopped(end)));
         counts.cuts += 1;
         for cut in end + 1..next {
-            let got = self.buffers.read(true, &text[..cut], 5)?;
+            let got = self.buffers.read(Reading::Ended, &text[..cut], 5)?;
             counts.answer(&got);
             counts.cuts += 1;
             if got != told || !kept.same(&self.buffers.rows()) {
@@ -91,7 +91,7 @@ impl Checker {
 
     /// Every cut of a text that the ended reading accepts, by the ended reading.
     pub fn cuts(&mut self, text: &[u8], counts: &mut Counts) -> Result<(), &'static str> {
-        let Ok((_, verdict)) = self.buffers.read(true, text, 5)? else {
+        let Ok((_, verdict)) = self.buffers.read(Reading::Ended, text, 5)? else {
             return Ok(());
         };
         counts.texts += 1;
@@ -104,10 +104,10 @@ impl Checker {
             return Err("the last record ends elsewhere");
         }
         for cut in 0..ends[0] {
-            let got = self.buffers.read(true, &text[..cut], 5)?;
+            let got = self.buffers.read(Reading::Ended, &text[..cut], 5)?;
             counts.answer(&got);
             counts.cuts += 1;
-            if got != Err(Refusal { number: 4, place: 0 }) {
+            if got != Err(Refused { refusal: Refusal::NoHeader, place: 0 }) {
                 return Err("a cut in the header is not refused with 4");
             }
         }
