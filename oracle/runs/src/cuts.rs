@@ -6,8 +6,8 @@ use crate::lent::{Read, Reading, Rows, Verdict};
 use gatecobalt::{Refusal, Refused};
 use oracle::{expected, places, read};
 
-/// The rows of one reading, kept.
-struct Kept {
+/// A copy of the rows of one reading.
+struct Copied {
     areas: Vec<u32>,
     symbols: Vec<u32>,
     values: Vec<u8>,
@@ -15,10 +15,10 @@ struct Kept {
     fixups: Vec<u32>,
 }
 
-impl Kept {
-    /// A copy of rows.
+impl Copied {
+    /// Copies rows.
     fn new(rows: Rows) -> Self {
-        Kept {
+        Copied {
             areas: rows.areas.to_vec(),
             symbols: rows.symbols.to_vec(),
             values: rows.values.to_vec(),
@@ -61,9 +61,8 @@ impl Checker {
         if matches!(got, Ok((_, verdict)) if verdict != Verdict::Finished) {
             return Err("not finished at a record's end");
         }
-        let copy = got.clone();
         self.held(got, part, &answer, told, part.len(), counts)?;
-        Ok(copy)
+        Ok(got)
     }
 
     /// The cuts from a record's end to before the next one: the same answer, stopped.
@@ -75,14 +74,14 @@ impl Checker {
         counts: &mut Counts,
     ) -> Result<(), &'static str> {
         let whole = self.at_end(&text[..end], counts)?;
-        let kept = Kept::new(self.buffers.rows());
+        let copied = Copied::new(self.buffers.rows());
         let told = whole.map(|(found, _)| (found, Verdict::Stopped(end)));
         counts.cuts += 1;
         for cut in end + 1..next {
             let got = self.buffers.read(Reading::Ended, &text[..cut], 5)?;
             counts.answer(&got);
             counts.cuts += 1;
-            if got != told || !kept.same(&self.buffers.rows()) {
+            if got != told || !copied.same(&self.buffers.rows()) {
                 return Err("a cut is not its whole records");
             }
         }

@@ -1,7 +1,7 @@
 //! An SDCC library, walked by the crate `ar` and read whole, member by member: what the old tool's
 //! `Aslink3Objects` did, but that a member which is not whole is told and the others go on.
 use gatecobalt::{Reader, Segment};
-use std::collections::BTreeSet;
+use std::collections::BTreeMap;
 use std::io::{Cursor, Read, Result};
 
 /// What a library gave.
@@ -29,7 +29,8 @@ impl Library {
     /// library that was cut behind a member lacks some.
     fn walk(&mut self, bytes: &[u8]) -> Result<()> {
         let mut archive = ar::Archive::new(Cursor::new(bytes));
-        let mut missing: BTreeSet<Vec<u8>> = archive.symbols()?.map(<[u8]>::to_vec).collect();
+        let mut missing = BTreeMap::new();
+        archive.symbols()?.for_each(|name| *missing.entry(name.to_vec()).or_insert(0) += 1);
         let mut reader = Reader::new();
         while let Some(entry) = archive.next_entry() {
             let mut entry = entry?;
@@ -45,14 +46,15 @@ impl Library {
                     self.modules += 1;
                     self.segments.extend(module.segments(self.segments.len()));
                     for symbol in module.symbols().filter(|symbol| !symbol.outside) {
-                        missing.remove(symbol.name.as_bytes());
+                        missing.entry(symbol.name.into()).and_modify(|count| *count -= 1);
                     }
                 }
                 Err(fault) => self.faults.push((Some(name), fault.to_string())),
             }
         }
-        if !missing.is_empty() {
-            let fault = format!("{} symbols of its table are in no whole member", missing.len());
+        let missing: i64 = missing.into_values().filter(|count| *count > 0).sum();
+        if missing > 0 {
+            let fault = format!("{missing} symbols of its table are in no whole member");
             self.faults.push((None, fault));
         } else if self.modules + self.faults.len() == 0 {
             self.faults.push((None, "no member".into()));

@@ -73,3 +73,20 @@ fn one_bad_member_is_told() {
     }
     assert_eq!(first, whole.segments.len());
 }
+
+/// Ids count on over whole members, and a bad one between them takes none.
+#[test]
+fn ids_count_on() {
+    let demo = include_bytes!("../../../../c/demo.rel");
+    let members = [("one.rel", demo.len()), ("cut.rel", demo.len() - 1), ("two.rel", demo.len())];
+    let mut builder = ar::Builder::new(Vec::new());
+    for (name, length) in members {
+        let header = ar::Header::new(name.into(), length as u64);
+        builder.append(&header, &demo[..length]).expect("an archive in memory");
+    }
+    let library = Library::read(&builder.into_inner().expect("an archive in memory"));
+    let refers = library.segments.iter().map(|segment| segment.fixups[1].reference.clone());
+    let counted = [Reference::Segment(0, 0), Reference::Segment(1, 0)];
+    assert_eq!(refers.collect::<Vec<_>>(), counted);
+    assert_eq!(library.faults, [(Some("cut.rel".into()), "stopped at 97".to_string())]);
+}
