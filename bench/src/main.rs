@@ -4,7 +4,7 @@
 mod old;
 mod texts;
 
-use gatecobalt::Reader;
+use gatecobalt::{Reader, Records};
 use std::hint::black_box;
 use std::process::ExitCode;
 use std::time::Instant;
@@ -19,18 +19,18 @@ const READERS: [&str; 4] = ["rust", "plain", "ended", "segments"];
 
 /// Positions and fixups of a text by one of the readers, to be compared and not left out.
 fn read(which: &str, reader: &mut Reader, text: &[u8]) -> (usize, usize) {
-    let counts = |reading: gatecobalt::Reading| (reading.counts.positions, reading.counts.fixups);
-    let none = |_| (0, 0);
-    match which {
-        "rust" => std::str::from_utf8(text).ok().and_then(old::read).unwrap_or((0, 0)),
-        "plain" => reader.plain(text).map_or_else(none, counts),
-        "ended" => reader.ended(text).map_or_else(none, counts),
-        "segments" => reader.plain(text).map_or_else(none, |reading| {
-            black_box(reading.segments(0));
-            counts(reading)
+    let counts = |records: Records| (records.counts().positions, records.counts().fixups);
+    let found = match which {
+        "rust" => std::str::from_utf8(text).ok().and_then(old::read),
+        "plain" => reader.plain(text).ok().map(|plain| counts(plain.records())),
+        "ended" => reader.whole(text).ok().map(|module| counts(module.records())),
+        "segments" => reader.plain(text).ok().map(|plain| {
+            black_box(plain.plain_segments(0));
+            counts(plain.records())
         }),
-        _ => (0, 0),
-    }
+        _ => None,
+    };
+    found.unwrap_or((0, 0))
 }
 
 /// All texts of a set so many times; answers the sum of what was found.

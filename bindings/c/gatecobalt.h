@@ -3,7 +3,7 @@
  * Every function answers for every argument that its types allow: pointers have to be valid for so
  * many elements as the length behind them says (a length of 0 asks nothing), and no two lent
  * buffers may overlap one another or the text. A reading takes under 512 KiB of stack and no heap.
- * Link libexports.a, which `rt staticlib exports` writes. */
+ * Link libgatecobalt.a, which bindings/library proves and builds (Linux on x86-64). */
 #ifndef GATECOBALT_H
 #define GATECOBALT_H
 
@@ -36,9 +36,9 @@ extern "C" {
 
 /* A reading's answer. A refusal: its number (1 to 13) and place, all else 0; no lent buffer has
  * changed. Otherwise refusal is 0, the counts say how much there is, finished is 1 if no byte is
- * left, else 0 and place is that of the next byte. The rows stand first in their buffers, and so do
- * the values and masks of all kept areas, one area behind the other; behind them the buffers keep
- * their bytes. */
+ * left, else 0 and place is that of the next byte: behind it nothing was read. The rows stand first
+ * in their buffers, and so do the values and masks of all kept areas, one area behind the other;
+ * behind them the buffers keep their bytes. */
 typedef struct {
     uint32_t refusal;
     uint32_t finished;
@@ -50,6 +50,12 @@ typedef struct {
     size_t positions; /* the sizes of kept areas together */
     size_t fixups;
 } gatecobalt_reading;
+
+/* The plain reading's answer, a type of its own: its finished is no verdict, since it may take what
+ * is left of a cut last line, and ends before the last line end of a whole module. */
+typedef struct {
+    gatecobalt_reading read;
+} gatecobalt_plain_reading;
 
 /* What a header tells: refusal is 4 if there is none, else 0; radix 16, 10 or 8; big is 1 if the
  * highest byte comes first; width is the bytes of an address. */
@@ -82,7 +88,7 @@ typedef struct {
 } gatecobalt_room;
 
 /* The plain reading: it ends at the first byte that it cannot take. */
-gatecobalt_reading gatecobalt_read_plain(const uint8_t *text, size_t text_length,
+gatecobalt_plain_reading gatecobalt_read_plain(const uint8_t *text, size_t text_length,
     uint32_t *areas, size_t areas_length, uint32_t *symbols, size_t symbols_length,
     uint8_t *values, size_t values_length, uint8_t *masks, size_t masks_length,
     uint32_t *fixups, size_t fixups_length);
@@ -92,6 +98,14 @@ gatecobalt_reading gatecobalt_read_ended(const uint8_t *text, size_t text_length
     uint32_t *areas, size_t areas_length, uint32_t *symbols, size_t symbols_length,
     uint8_t *values, size_t values_length, uint8_t *masks, size_t masks_length,
     uint32_t *fixups, size_t fixups_length);
+
+/* Whether the ended reading read a text to its last byte, every record with its line end. If not,
+ * what it read is a part. A text that was cut directly behind a record is whole by this: its lines
+ * alone do not tell. */
+static inline bool gatecobalt_is_whole(gatecobalt_reading read)
+{
+    return read.refusal == 0 && read.finished == 1;
+}
 
 /* A text's header. */
 gatecobalt_heading gatecobalt_header(const uint8_t *text, size_t text_length);

@@ -19,7 +19,6 @@ fn main() {
         bytes += line.len();
         match &reader[..] {
             "probe_number" => drop(black_box(ported::number(black_box(line), 0, 16))),
-            "probe_content" => drop(black_box(ported::content(black_box(line), form))),
             "probe_whole" => drop(black_box(ported::whole(black_box(line), form))),
             "probe_relocation" => drop(black_box(ported::relocation(black_box(line), form))),
             "probe_entry" => drop(black_box(ported::entry(black_box(line), form))),

@@ -1,5 +1,6 @@
 //! The static library's functions. Each is total: it answers for every text and every slice, and
 //! writes only into the slices that it is lent. So each call here is sound for every argument.
+use crate::lent::Lent;
 
 /// A reading's answer as numbers.
 #[repr(C)]
@@ -15,16 +16,12 @@ pub(crate) struct ReadNumbers {
     pub fixups: usize,
 }
 
-/// What a header tells.
+/// What a header tells, as numbers.
 #[repr(C)]
-#[derive(Clone, Copy, Debug, PartialEq, Eq)]
-pub struct Header {
-    pub(crate) refusal: u32,
-    /// 16, 10 or 8.
+pub(crate) struct HeaderNumbers {
+    pub refusal: u32,
     pub radix: u32,
-    /// 1 if a number's highest byte comes first.
     pub big: u32,
-    /// The bytes of an address: 2, 3 or 4.
     pub width: u32,
 }
 
@@ -67,18 +64,18 @@ pub struct Rooms {
 
 /// The type of both readings.
 type Read = unsafe extern "C" fn(
-    *const u8,
-    usize,
-    *mut u32,
-    usize,
-    *mut u32,
-    usize,
-    *mut u8,
-    usize,
-    *mut u8,
-    usize,
-    *mut u32,
-    usize,
+    text: *const u8,
+    text_len: usize,
+    areas: *mut u32,
+    areas_len: usize,
+    symbols: *mut u32,
+    symbols_len: usize,
+    values: *mut u8,
+    values_len: usize,
+    masks: *mut u8,
+    masks_len: usize,
+    fixups: *mut u32,
+    fixups_len: usize,
 ) -> ReadNumbers;
 
 extern "C" {
@@ -113,7 +110,7 @@ extern "C" {
         fixups_len: usize,
     ) -> ReadNumbers;
     /// A text's header.
-    fn gatecobalt_header(text: *const u8, text_len: usize) -> Header;
+    fn gatecobalt_header(text: *const u8, text_len: usize) -> HeaderNumbers;
     /// The target of a fixup.
     fn gatecobalt_target(
         mode: u32,
@@ -138,26 +135,12 @@ extern "C" {
     fn gatecobalt_rooms() -> Rooms;
 }
 
-/// The five buffers that a reading is lent, of any lengths; refusal 1 if one is too short.
-pub struct Lent<'a> {
-    /// For area rows.
-    pub areas: &'a mut [u32],
-    /// For symbol rows.
-    pub symbols: &'a mut [u32],
-    /// For values.
-    pub values: &'a mut [u8],
-    /// For masks.
-    pub masks: &'a mut [u8],
-    /// For fixup rows.
-    pub fixups: &'a mut [u32],
-}
-
-/// The plain or the ended reading of a text.
-pub(crate) fn read(ended: bool, text: &[u8], lent: Lent) -> ReadNumbers {
-    let read: Read = if ended { gatecobalt_read_ended } else { gatecobalt_read_plain };
-    // SAFETY: six slices that do not overlap, five of them borrowed for writing.
+/// One of the readings.
+fn read(reading: Read, text: &[u8], lent: &mut Lent) -> ReadNumbers {
+    // SAFETY: `reading` is one of the two declared above. It is passed six slices with their
+    // lengths; five are borrowed for writing alone, so no two of the six overlap.
     unsafe {
-        read(
+        reading(
             text.as_ptr(),
             text.len(),
             lent.areas.as_mut_ptr(),
@@ -174,9 +157,19 @@ pub(crate) fn read(ended: bool, text: &[u8], lent: Lent) -> ReadNumbers {
     }
 }
 
+/// The plain reading of a text.
+pub(crate) fn read_plain(text: &[u8], lent: &mut Lent) -> ReadNumbers {
+    read(gatecobalt_read_plain, text, lent)
+}
+
+/// The ended reading of a text.
+pub(crate) fn read_ended(text: &[u8], lent: &mut Lent) -> ReadNumbers {
+    read(gatecobalt_read_ended, text, lent)
+}
+
 /// What a text's header tells.
-pub(crate) fn header(text: &[u8]) -> Header {
-    // SAFETY: one slice that is read.
+pub(crate) fn header(text: &[u8]) -> HeaderNumbers {
+    // SAFETY: one slice that is read, with its length.
     unsafe { gatecobalt_header(text.as_ptr(), text.len()) }
 }
 
@@ -188,7 +181,7 @@ pub(crate) fn target(
     address: u64,
     bytes: &[u8],
 ) -> TargetNumbers {
-    // SAFETY: numbers, and one slice that is read.
+    // SAFETY: numbers, and one slice that is read, with its length.
     unsafe { gatecobalt_target(mode, big, number, address, bytes.as_ptr(), bytes.len()) }
 }
 
@@ -206,12 +199,14 @@ pub(crate) fn corrected_target(
 }
 
 /// Numbers in a row of each table.
+#[must_use]
 pub fn widths() -> Widths {
     // SAFETY: nothing is passed.
     unsafe { gatecobalt_widths() }
 }
 
 /// The longest text, and the room that each lent buffer has to have.
+#[must_use]
 pub fn rooms() -> Rooms {
     // SAFETY: nothing is passed.
     unsafe { gatecobalt_rooms() }

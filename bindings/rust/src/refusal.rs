@@ -1,43 +1,128 @@
 //! Refusals.
-use std::fmt;
+use std::{error, fmt};
 
-/// Why a text or a target is refused: a number, and a place that counts bytes from 0.
-#[derive(Clone, Copy, Debug, PartialEq, Eq)]
-pub struct Refusal {
-    /// 1 to 14.
-    pub number: u32,
-    /// Where the text gives the reason; 0 where it is the whole.
-    pub place: usize,
+/// Why a text or a target is refused. The number of each is document 01's.
+#[derive(Clone, Copy, Debug, PartialEq, Eq, PartialOrd, Ord, Hash)]
+#[non_exhaustive]
+#[repr(u32)]
+pub enum Refusal {
+    /// A lent buffer is too short.
+    ShortBuffer = 1,
+    /// The text is longer than 65,536 bytes.
+    LongText = 2,
+    /// A byte above 127.
+    HighByte = 3,
+    /// No header.
+    NoHeader = 4,
+    /// More than 64 areas.
+    ManyAreas = 5,
+    /// More than 1,024 symbols.
+    ManySymbols = 6,
+    /// More than 256 content bytes in a pair.
+    MuchContent = 7,
+    /// More than 64 fragments in a pair.
+    ManyFragments = 8,
+    /// Kept areas larger than 65,536 in all.
+    LargeAreas = 9,
+    /// A fragment runs past its line.
+    PastLine = 10,
+    /// A symbol index past the table.
+    PastSymbols = 11,
+    /// A fixup has no number.
+    NoNumber = 12,
+    /// More than 1,024 fixups.
+    ManyFixups = 13,
+    /// A target of a mode over 2,047, of a number of 24 bits or more, or of too few bytes.
+    NoTarget = 14,
 }
 
+/// Every refusal, in the order of their numbers.
+const ALL: [Refusal; 14] = [
+    Refusal::ShortBuffer,
+    Refusal::LongText,
+    Refusal::HighByte,
+    Refusal::NoHeader,
+    Refusal::ManyAreas,
+    Refusal::ManySymbols,
+    Refusal::MuchContent,
+    Refusal::ManyFragments,
+    Refusal::LargeAreas,
+    Refusal::PastLine,
+    Refusal::PastSymbols,
+    Refusal::NoNumber,
+    Refusal::ManyFixups,
+    Refusal::NoTarget,
+];
+
 impl Refusal {
-    /// What the number means.
-    pub fn meaning(&self) -> &'static str {
-        match self.number {
-            1 => "a lent buffer is too short",
-            2 => "the text is longer than 65,536 bytes",
-            3 => "a byte above 127",
-            4 => "no header",
-            5 => "more than 64 areas",
-            6 => "more than 1,024 symbols",
-            7 => "more than 256 content bytes in a pair",
-            8 => "more than 64 fragments in a pair",
-            9 => "kept areas larger than 65,536 in all",
-            10 => "a fragment runs past its line",
-            11 => "a symbol index past the table",
-            12 => "a fixup has no number",
-            13 => "more than 1,024 fixups",
-            14 => "a target of a mode over 2,047, a number of 24 bits or more, or too few bytes",
-            _ => "not a refusal",
+    /// Its number, 1 to 14.
+    #[must_use]
+    pub fn number(self) -> u32 {
+        self as u32
+    }
+
+    /// The refusal with a number, if there is one.
+    #[must_use]
+    pub fn from_number(number: u32) -> Option<Refusal> {
+        ALL.into_iter().find(|refusal| refusal.number() == number)
+    }
+
+    /// What it means.
+    #[must_use]
+    pub fn meaning(self) -> &'static str {
+        match self {
+            Refusal::ShortBuffer => "a lent buffer is too short",
+            Refusal::LongText => "the text is longer than 65,536 bytes",
+            Refusal::HighByte => "a byte above 127",
+            Refusal::NoHeader => "no header",
+            Refusal::ManyAreas => "more than 64 areas",
+            Refusal::ManySymbols => "more than 1,024 symbols",
+            Refusal::MuchContent => "more than 256 content bytes in a pair",
+            Refusal::ManyFragments => "more than 64 fragments in a pair",
+            Refusal::LargeAreas => "kept areas larger than 65,536 in all",
+            Refusal::PastLine => "a fragment runs past its line",
+            Refusal::PastSymbols => "a symbol index past the table",
+            Refusal::NoNumber => "a fixup has no number",
+            Refusal::ManyFixups => "more than 1,024 fixups",
+            Refusal::NoTarget => {
+                "a target of a mode over 2,047, a number of 24 bits or more, or too few bytes"
+            }
         }
+    }
+
+    /// What a number of the library's answer says: 0 is no refusal.
+    pub(crate) fn told(number: u32) -> Result<(), Refusal> {
+        if number == 0 {
+            return Ok(());
+        }
+        Err(Refusal::from_number(number).expect("a library with the refusals of this crate"))
     }
 }
 
 impl fmt::Display for Refusal {
-    /// The number, the place and the meaning.
+    /// The number and the meaning.
     fn fmt(&self, out: &mut fmt::Formatter) -> fmt::Result {
-        write!(out, "refused {} at {}: {}", self.number, self.place, self.meaning())
+        write!(out, "refused {}: {}", self.number(), self.meaning())
     }
 }
 
-impl std::error::Error for Refusal {}
+impl error::Error for Refusal {}
+
+/// A text that is refused: why, and at which place.
+#[derive(Clone, Copy, Debug, PartialEq, Eq)]
+pub struct Refused {
+    /// Why.
+    pub refusal: Refusal,
+    /// Where the text gives the reason, counted in bytes from 0; 0 where the whole text does.
+    pub place: usize,
+}
+
+impl fmt::Display for Refused {
+    /// The number, the place and the meaning.
+    fn fmt(&self, out: &mut fmt::Formatter) -> fmt::Result {
+        let Refused { refusal, place } = self;
+        write!(out, "refused {} at {place}: {}", refusal.number(), refusal.meaning())
+    }
+}
+
+impl error::Error for Refused {}

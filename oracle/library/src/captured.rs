@@ -36,6 +36,10 @@ pub const SAMPLES: [(u16, usize); 6] = [
 fn bytes_at<F>(value: &F, place: usize, count: usize) -> usize {
     assert!(place + count <= size_of::<F>());
     let start = std::ptr::from_ref(value).cast::<u8>();
+    // SAFETY: the place and the bytes behind it lie inside the value, as was just seen. While places are
+    // searched for, a byte between two captured values may be read, of which the language says nothing:
+    // the volatile read gives what the memory holds, and a place counts only where every sample has its
+    // known number.
     let byte = |at| usize::from(unsafe { start.add(place + at).read_volatile() });
     (0..count).rev().fold(0, |sum, at| sum << 8 | byte(at))
 }

@@ -52,7 +52,7 @@ pub fn cause(line: u32) -> Cause {
         SYMBOL_LINE => Cause::Symbol,
         NUMBER_LINE => Cause::Number,
         _ if (STEP_LINES[0]..STEP_LINES[1]).contains(&line) => Cause::Entry,
-        _ => Cause::Elsewhere(line),
+        _ => Cause::Elsewhere,
     }
 }
 

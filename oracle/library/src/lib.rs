@@ -44,7 +44,7 @@ pub fn read(text: &[u8]) -> Answer {
     let (parsed, rest) = match quiet::quietly(|| find::probe::parse(text)) {
         Ok(Some(parsed)) => parsed,
         Ok(None) => return Answer::NoHeader,
-        Err(line) => return Answer::PanickedParsing(line),
+        Err(_) => return Answer::PanickedParsing,
     };
     let tables = parsed.tables(rest);
     if tables.kept_size() > LARGEST {

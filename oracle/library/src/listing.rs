@@ -56,7 +56,7 @@ pub fn listing(text: &[u8], answer: &Answer) -> String {
             whole(&mut out, text.len(), tables, kept).expect("text can be written to a string");
             out
         }
-        Answer::Panicked(..) | Answer::PanickedParsing(_) => "panic\n".into(),
+        Answer::Panicked(..) | Answer::PanickedParsing => "panic\n".into(),
         Answer::TooLarge(_) => "too large\n".into(),
         Answer::NoHeader => "no header\n".into(),
         Answer::NotText => "not text\n".into(),

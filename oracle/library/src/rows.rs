@@ -168,7 +168,7 @@ pub enum Cause {
     /// A fixup has no number: refusal 12.
     Number,
     /// A line of the source that no refusal stands for.
-    Elsewhere(u32),
+    Elsewhere,
 }
 
 /// What the Rust does with a text.
@@ -178,7 +178,7 @@ pub enum Answer {
     /// It panics while placing, after so many fixups.
     Panicked(Cause, usize, Tables),
     /// It panics while parsing: no rule says so.
-    PanickedParsing(u32),
+    PanickedParsing,
     /// The kept areas are so large together that it was not asked to place.
     TooLarge(Tables),
     /// It finds no header.

@@ -1,4 +1,5 @@
-//! The ported readers, called through the exports of `probe_line`.
+//! The ported readers, called through the exports of `probe_line`. Each answers for every slice, and writes only into
+//! the arrays that it is lent.
 
 /// A row of numbers: the reason of a halt and its place; or 0, the place behind what was read, and its values.
 #[repr(C)]
@@ -81,31 +82,38 @@ pub struct Form {
 }
 
 pub fn number(t: &[u8], at: usize, radix: u8) -> Row {
+    // SAFETY: one slice that is read, with its length, and numbers.
     unsafe { exported::probe_number(t.as_ptr(), t.len(), at, radix) }
 }
 
 pub fn byte(t: &[u8], at: usize, radix: u8) -> Row {
+    // SAFETY: one slice that is read, with its length, and numbers.
     unsafe { exported::probe_byte(t.as_ptr(), t.len(), at, radix) }
 }
 
 pub fn address(t: &[u8], at: usize, form: Form) -> Row {
+    // SAFETY: one slice that is read, with its length, and numbers.
     unsafe { exported::probe_address(t.as_ptr(), t.len(), at, form.radix, form.big, form.width) }
 }
 
 pub fn index(t: &[u8], at: usize, form: Form) -> Row {
+    // SAFETY: one slice that is read, with its length, and numbers.
     unsafe { exported::probe_index(t.as_ptr(), t.len(), at, form.radix, form.big) }
 }
 
 pub fn mode(t: &[u8], at: usize, form: Form) -> Row {
+    // SAFETY: one slice that is read, with its length, and numbers.
     unsafe { exported::probe_mode(t.as_ptr(), t.len(), at, form.radix) }
 }
 
 pub fn header(t: &[u8]) -> Row {
+    // SAFETY: one slice that is read, with its length, and numbers.
     unsafe { exported::probe_header(t.as_ptr(), t.len()) }
 }
 
 /// The line at a place: the place behind its line end, where its bytes end, and its line end's length.
 pub fn line(t: &[u8], at: usize) -> Row {
+    // SAFETY: one slice that is read, with its length, and numbers.
     unsafe { exported::probe_line_at(t.as_ptr(), t.len(), at) }
 }
 
@@ -115,18 +123,22 @@ pub fn first_line(t: &[u8]) -> &[u8] {
 }
 
 pub fn ignored(t: &[u8], letters: &[u8]) -> Row {
+    // SAFETY: two slices that are read, each with its length.
     unsafe { exported::probe_ignored(t.as_ptr(), t.len(), letters.as_ptr(), letters.len()) }
 }
 
 pub fn area(t: &[u8], form: Form) -> Row {
+    // SAFETY: one slice that is read, with its length, and numbers.
     unsafe { exported::probe_area(t.as_ptr(), t.len(), form.radix, form.big, form.width) }
 }
 
 pub fn symbol(t: &[u8], form: Form) -> Row {
+    // SAFETY: one slice that is read, with its length, and numbers.
     unsafe { exported::probe_symbol(t.as_ptr(), t.len(), form.radix, form.big, form.width) }
 }
 
 pub fn entry(t: &[u8], form: Form) -> Row {
+    // SAFETY: one slice that is read, with its length, and numbers.
     unsafe { exported::probe_entry(t.as_ptr(), t.len(), form.radix, form.big, form.width) }
 }
 
@@ -138,6 +150,7 @@ pub const UNTOUCHED_NUMBER: u32 = 0xA5A5_A5A5;
 pub fn content(t: &[u8], form: Form) -> (Row, [u8; 256]) {
     let mut out = [UNTOUCHED; 256];
     let Form { radix, big, width } = form;
+    // SAFETY: one slice that is read, and an array of the 256 bytes that may be written.
     let row = unsafe {
         exported::probe_content(t.as_ptr(), t.len(), radix, big, width, out.as_mut_ptr())
     };
@@ -147,6 +160,7 @@ pub fn content(t: &[u8], form: Form) -> (Row, [u8; 256]) {
 pub fn whole(t: &[u8], form: Form) -> (Row, [u8; 256]) {
     let mut out = [UNTOUCHED; 256];
     let Form { radix, big, width } = form;
+    // SAFETY: one slice that is read, and an array of the 256 bytes that may be written.
     let row =
         unsafe { exported::probe_whole(t.as_ptr(), t.len(), radix, big, width, out.as_mut_ptr()) };
     (row, out)
@@ -159,6 +173,7 @@ pub fn relocation(t: &[u8], form: Form) -> (Row, Columns) {
     let mut columns = [[UNTOUCHED_NUMBER; 64]; 3];
     let [modes, entries, indexes] = &mut columns;
     let Form { radix, big, width } = form;
+    // SAFETY: one slice that is read, and three arrays of the 64 numbers that may be written.
     let row = unsafe {
         exported::probe_relocation(
             t.as_ptr(),

@@ -1,8 +1,8 @@
 //! One text: the plain and the ended reading against the Rust's answer.
 use crate::counts::Counts;
-use crate::lent::{Buffers, Read};
+use crate::lent::{Buffers, Read, Reading, Verdict};
 use crate::told::Told;
-use gatecobalt::{Refusal, Verdict};
+use gatecobalt::{Refusal, Refused};
 use oracle::generate::Random;
 use oracle::{expected, places, read, Answer, Expected};
 
@@ -72,8 +72,8 @@ impl Checker {
     ) -> Result<(), &'static str> {
         counts.answer(&got);
         match (got, told, answer) {
-            (Err(Refusal { number, place }), Expected::Refused(told, at), _) => {
-                let same = number == u32::from(told) && place == at;
+            (Err(Refused { refusal, place }), Expected::Refused(told, at), _) => {
+                let same = refusal.number() == u32::from(told) && place == at;
                 same.then_some(()).ok_or("another refusal")
             }
             (Ok((read, verdict)), Expected::Accepted, Answer::Read(tables, kept)) => {
@@ -95,7 +95,7 @@ impl Checker {
         let answer = read(text);
         let told = expected(text, &answer);
         let rest = answer.tables().map_or(0, |tables| tables.rest);
-        let plain = self.buffers.read(false, text, 5)?;
+        let plain = self.buffers.read(Reading::Plain, text, 5)?;
         self.held(plain, text, &answer, told, rest, counts)?;
         self.ended(text, &answer, told, counts)
     }
@@ -109,7 +109,7 @@ impl Checker {
         told: Expected,
         counts: &mut Counts,
     ) -> Result<(), &'static str> {
-        let got = self.buffers.read(true, text, 5)?;
+        let got = self.buffers.read(Reading::Ended, text, 5)?;
         let whole = matches!(told, Expected::Refused(2 | 3, _));
         let stop = answer.tables().and_then(|tables| ended_stop(text, tables.rest));
         if whole || answer.tables().is_none() {
@@ -135,10 +135,10 @@ impl Checker {
     /// Refusal 1: a text with one buffer too short, by both readings.
     pub fn short(&mut self, text: &[u8], counts: &mut Counts) -> Result<(), &'static str> {
         for short in 0..5 {
-            for ended in [false, true] {
-                let got = self.buffers.read(ended, text, short)?;
+            for reading in [Reading::Plain, Reading::Ended] {
+                let got = self.buffers.read(reading, text, short)?;
                 counts.answer(&got);
-                if got != Err(Refusal { number: 1, place: 0 }) {
+                if got != Err(Refused { refusal: Refusal::ShortBuffer, place: 0 }) {
                     return Err("a short buffer is not refused");
                 }
             }

@@ -1,5 +1,5 @@
 //! What was compared.
-use crate::lent::Read;
+use crate::lent::{Read, Verdict};
 use gatecobalt::Counts as Found;
 
 /// Counts of one part of a run.
@@ -22,9 +22,9 @@ impl Counts {
         match read {
             Ok((_, verdict)) => {
                 self.accepted += 1;
-                self.finished += u64::from(*verdict == gatecobalt::Verdict::Finished);
+                self.finished += u64::from(*verdict == Verdict::Finished);
             }
-            Err(refusal) => self.refused[refusal.number as usize % 15] += 1,
+            Err(refused) => self.refused[refused.refusal.number() as usize] += 1,
         }
     }
 

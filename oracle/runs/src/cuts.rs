@@ -2,12 +2,12 @@
 //! inside the cut give, and is called finished exactly at a record's end.
 use crate::check::Checker;
 use crate::counts::Counts;
-use crate::lent::{Read, Rows};
-use gatecobalt::{Refusal, Verdict};
+use crate::lent::{Read, Reading, Rows, Verdict};
+use gatecobalt::{Refusal, Refused};
 use oracle::{expected, places, read};
 
-/// The rows of one reading, kept.
-struct Kept {
+/// A copy of the rows of one reading.
+struct Copied {
     areas: Vec<u32>,
     symbols: Vec<u32>,
     values: Vec<u8>,
@@ -15,10 +15,10 @@ struct Kept {
     fixups: Vec<u32>,
 }
 
-impl Kept {
-    /// A copy of rows.
+impl Copied {
+    /// Copies rows.
     fn new(rows: Rows) -> Self {
-        Kept {
+        Copied {
             areas: rows.areas.to_vec(),
             symbols: rows.symbols.to_vec(),
             values: rows.values.to_vec(),
@@ -55,15 +55,14 @@ fn record_ends(text: &[u8]) -> Option<Vec<usize>> {
 impl Checker {
     /// The ended reading of the part up to a record's end, held against the Rust.
     fn at_end(&mut self, part: &[u8], counts: &mut Counts) -> Result<Read, &'static str> {
-        let got = self.buffers.read(true, part, 5)?;
+        let got = self.buffers.read(Reading::Ended, part, 5)?;
         let answer = read(part);
         let told = expected(part, &answer);
         if matches!(got, Ok((_, verdict)) if verdict != Verdict::Finished) {
             return Err("not finished at a record's end");
         }
-        let copy = got.clone();
         self.held(got, part, &answer, told, part.len(), counts)?;
-        Ok(copy)
+        Ok(got)
     }
 
     /// The cuts from a record's end to before the next one: the same answer, stopped.
@@ -75,14 +74,14 @@ impl Checker {
         counts: &mut Counts,
     ) -> Result<(), &'static str> {
         let whole = self.at_end(&text[..end], counts)?;
-        let kept = Kept::new(self.buffers.rows());
+        let copied = Copied::new(self.buffers.rows());
         let told = whole.map(|(found, _)| (found, Verdict::Stopped(end)));
         counts.cuts += 1;
         for cut in end + 1..next {
-            let got = self.buffers.read(true, &text[..cut], 5)?;
+            let got = self.buffers.read(Reading::Ended, &text[..cut], 5)?;
             counts.answer(&got);
             counts.cuts += 1;
-            if got != told || !kept.same(&self.buffers.rows()) {
+            if got != told || !copied.same(&self.buffers.rows()) {
                 return Err("a cut is not its whole records");
             }
         }
@@ -91,7 +90,7 @@ impl Checker {
 
     /// Every cut of a text that the ended reading accepts, by the ended reading.
     pub fn cuts(&mut self, text: &[u8], counts: &mut Counts) -> Result<(), &'static str> {
-        let Ok((_, verdict)) = self.buffers.read(true, text, 5)? else {
+        let Ok((_, verdict)) = self.buffers.read(Reading::Ended, text, 5)? else {
             return Ok(());
         };
         counts.texts += 1;
@@ -104,10 +103,10 @@ impl Checker {
             return Err("the last record ends elsewhere");
         }
         for cut in 0..ends[0] {
-            let got = self.buffers.read(true, &text[..cut], 5)?;
+            let got = self.buffers.read(Reading::Ended, &text[..cut], 5)?;
             counts.answer(&got);
             counts.cuts += 1;
-            if got != Err(Refusal { number: 4, place: 0 }) {
+            if got != Err(Refused { refusal: Refusal::NoHeader, place: 0 }) {
                 return Err("a cut in the header is not refused with 4");
             }
         }

@@ -1,12 +1,46 @@
 //! Lent buffers with guards: every element holds a pattern before a reading, and what a reading
 //! may not touch has to hold it afterwards.
-use gatecobalt::{read_into, rooms, widths, Counts, Lent, Refusal, Verdict};
+use gatecobalt::{rooms, widths, Counts, Lent, NotWhole, Refused};
 
 /// Elements behind each lent buffer that no reading may touch.
 const GUARD: usize = 64;
 
+/// Which reading.
+#[derive(Clone, Copy, Debug, PartialEq, Eq)]
+pub enum Reading {
+    Plain,
+    Ended,
+}
+
+/// Whether a reading left bytes, as the library says it.
+#[derive(Clone, Copy, Debug, PartialEq, Eq)]
+pub enum Verdict {
+    /// No byte is left.
+    Finished,
+    /// The place of the next byte.
+    Stopped(usize),
+}
+
 /// A reading's counts and verdict, or its refusal.
-pub type Read = Result<(Counts, Verdict), Refusal>;
+pub type Read = Result<(Counts, Verdict), Refused>;
+
+/// A reading into lent buffers.
+fn read(reading: Reading, text: &[u8], lent: Lent) -> Read {
+    match reading {
+        Reading::Plain => lent.plain(text).map(|plain| {
+            let verdict = plain.left_from().map_or(Verdict::Finished, Verdict::Stopped);
+            (plain.records().counts(), verdict)
+        }),
+        Reading::Ended => match lent.whole(text) {
+            Ok(module) => Ok((module.counts(), Verdict::Finished)),
+            Err(NotWhole::Stopped(stopped)) => {
+                Ok((stopped.up_to_there().counts(), Verdict::Stopped(stopped.place())))
+            }
+            Err(NotWhole::Refused(refused)) => Err(refused),
+            Err(other) => panic!("{other}: nothing here compares this"),
+        },
+    }
+}
 
 /// One buffer: what it holds now, its pattern, and how many elements are lent.
 struct Guarded<T> {
@@ -81,7 +115,12 @@ impl Buffers {
 
     /// A reading into patterned buffers, of which `short` is one element too short if it is below
     /// 5. An error says what was touched that may not be.
-    pub fn read(&mut self, ended: bool, text: &[u8], short: usize) -> Result<Read, &'static str> {
+    pub fn read(
+        &mut self,
+        reading: Reading,
+        text: &[u8],
+        short: usize,
+    ) -> Result<Read, &'static str> {
         self.clear();
         let lent = Lent {
             areas: self.areas.lend(short == 0),
@@ -90,7 +129,7 @@ impl Buffers {
             masks: self.masks.lend(short == 3),
             fixups: self.fixups.lend(short == 4),
         };
-        let read = read_into(ended, text, lent);
+        let read = read(reading, text, lent);
         let used = read.as_ref().map_or([0; 4], |(counts, _)| used(counts));
         let intact = self.areas.intact(used[0])
             & self.symbols.intact(used[1])

@@ -1,4 +1,5 @@
 //! Targets, the library's against the Rust's.
+use gatecobalt::Refusal;
 use oracle::generate::Random;
 use oracle::{on_site_size, Fixup};
 
@@ -51,7 +52,7 @@ pub fn any(random: &mut Random, count: usize) -> Result<usize, &'static str> {
             let rust = oracle::target(mode as u16, big, number as usize, site, at as usize);
             told.ok() == rust.map(|target| target as u64)
         } else {
-            told.err().map(|refusal| (refusal.number, refusal.place)) == Some((14, 0))
+            told == Err(Refusal::NoTarget)
         };
         if !same {
             return Err("a target");

@@ -1,4 +1,5 @@
-//! The port's functions, as its archive exports them.
+//! The port's functions, as its archive exports them. Each answers for every input, and writes only into the slices
+//! that it is lent.
 
 /// A target, or the number and place of a refusal.
 #[repr(C)]
@@ -79,11 +80,13 @@ mod archive {
 
 /// The class number of a mode, 6 for a mode over 2,047.
 pub fn class(mode: u16) -> u8 {
+    // SAFETY: a number.
     unsafe { archive::probe_class(mode) }
 }
 
 /// The size of a mode on site, 0 for a mode over 2,047.
 pub fn size(mode: u16) -> usize {
+    // SAFETY: a number.
     unsafe { archive::probe_size(mode) }
 }
 
@@ -101,6 +104,8 @@ pub fn step(
     masks: &mut [u8],
     kept: &mut [u8],
 ) -> Step {
+    // SAFETY: an array of the 2,048 bytes that are read, and three slices with their lengths, each borrowed for
+    // writing alone, so that no two overlap.
     unsafe {
         archive::probe_step(
             table,
@@ -118,6 +123,7 @@ pub fn step(
 
 /// The target, with the table made inside.
 pub fn target(mode: u32, big: bool, number: u32, address: u64, bytes: &[u8]) -> Target {
+    // SAFETY: numbers, and one slice that is read, with its length.
     unsafe { archive::probe_target(mode, big, number, address, bytes.as_ptr(), bytes.len()) }
 }
 
@@ -135,6 +141,7 @@ pub fn target_in(
     address: u64,
     bytes: &[u8],
 ) -> Target {
+    // SAFETY: an array of the 2,048 bytes that are read, numbers, and one slice that is read, with its length.
     unsafe {
         archive::probe_target_in(table, mode, big, number, address, bytes.as_ptr(), bytes.len())
     }
@@ -149,6 +156,7 @@ pub fn targets(
     bytes: &[u8],
     out: &mut [u64],
 ) -> usize {
+    // SAFETY: four slices that are read and one that is borrowed for writing alone, each with its length.
     unsafe {
         archive::probe_targets(
             big,

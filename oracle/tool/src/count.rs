@@ -16,7 +16,7 @@ struct Counts {
     accepted: usize,
     refused: [usize; 14],
     untold: usize,
-    whole: usize,
+    to_end: usize,
     with_fixups: usize,
     classes: [usize; 5],
 }
@@ -40,12 +40,12 @@ impl Counts {
             Answer::Read(tables, kept) => {
                 self.read += 1;
                 let left = &text[tables.rest..];
-                self.whole += usize::from(matches!(left, b"" | b"\n" | b"\r\n"));
+                self.to_end += usize::from(matches!(left, b"" | b"\n" | b"\r\n"));
                 let fixups = kept.iter().flat_map(|area| &area.fixups);
                 fixups.clone().for_each(|fixup| self.classes[column(fixup.mode)] += 1);
                 self.with_fixups += usize::from(fixups.count() > 0);
             }
-            Answer::Panicked(..) | Answer::PanickedParsing(_) => self.panicked += 1,
+            Answer::Panicked(..) | Answer::PanickedParsing => self.panicked += 1,
             Answer::NoHeader => self.no_header += 1,
             Answer::TooLarge(_) => self.too_large += 1,
             Answer::NotText => self.not_text += 1,
@@ -67,7 +67,7 @@ impl Counts {
         self.not_text += other.not_text;
         self.accepted += other.accepted;
         self.untold += other.untold;
-        self.whole += other.whole;
+        self.to_end += other.to_end;
         self.with_fixups += other.with_fixups;
         self.refused.iter_mut().zip(other.refused).for_each(|(sum, more)| *sum += more);
         self.classes.iter_mut().zip(other.classes).for_each(|(sum, more)| *sum += more);
@@ -77,7 +77,7 @@ impl Counts {
     fn print(&self, name: &str) {
         print!("{name:13} {:7} {:7} {:6}", self.texts, self.read, self.panicked);
         print!(" {:6} {:5} {:5}", self.no_header, self.too_large, self.not_text);
-        print!(" {:7} {:7} {:7}", self.whole, self.with_fixups, self.accepted);
+        print!(" {:7} {:7} {:7}", self.to_end, self.with_fixups, self.accepted);
         self.refused[2..].iter().for_each(|count| print!(" {count:5}"));
         print!(" {:6}", self.untold);
         self.classes.iter().for_each(|count| print!(" {count:7}"));
@@ -89,7 +89,7 @@ impl Counts {
 fn heading() {
     print!("{:13} {:>7} {:>7} {:>6}", "kind", "texts", "read", "panic");
     print!(" {:>6} {:>5} {:>5}", "nohead", "large", "bytes");
-    print!(" {:>7} {:>7} {:>7}", "whole", "fixups", "accept");
+    print!(" {:>7} {:>7} {:>7}", "to end", "fixups", "accept");
     (2..14).for_each(|number| print!(" {:>5}", format!("r{number}")));
     print!(" {:>6}", "untold");
     println!(" {:>7} {:>7} {:>7} {:>7} {:>7}", "Addr19", "Addr11", "Addr24", "Addr16", "Byte");

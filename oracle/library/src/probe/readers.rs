@@ -1,8 +1,8 @@
 //! The source's line readers one by one: each answers with its value and the bytes it used, or
 //! with none.
 use super::super as source;
-use super::{format_of, plain_area, plain_format, plain_fragments, plain_pair, plain_symbol};
-use crate::rows::{Area, Content, Format, Fragment, Pair, Symbol};
+use super::{format_of, plain_area, plain_format, plain_pair, plain_symbol};
+use crate::rows::{Area, Content, Format, Pair, Symbol};
 use nom::IResult;
 
 /// A value and the bytes used for it.
@@ -34,24 +34,9 @@ pub fn parse_byte(format: Format, text: &str) -> Used<u8> {
     used(text, source::parse_byte(format_of(format))(text))
 }
 
-/// So many bytes, blanks between them.
-pub fn parse_byte_list(format: Format, count: u32, text: &str) -> Used<Vec<u8>> {
-    used(text, source::parse_byte_list(format_of(format), count)(text))
-}
-
-/// As many bytes as there are, each behind blanks.
-pub fn parse_byte_many(format: Format, text: &str) -> Used<Vec<u8>> {
-    used(text, source::parse_byte_many(format_of(format))(text))
-}
-
 /// An address: as many bytes as the format says, joined.
 pub fn parse_multi_number(format: Format, text: &str) -> Used<u32> {
     used(text, source::parse_multi_number(format_of(format))(text))
-}
-
-/// A name.
-pub fn parse_symbol(text: &str) -> Used<String> {
-    used(text, source::parse_symbol(text))
 }
 
 /// An index: two bytes, joined.
@@ -75,12 +60,6 @@ pub fn parse_content(format: Format, text: &str) -> Used<Content> {
 pub fn parse_extended_mode(format: Format, text: &str) -> Used<u16> {
     let answer = source::parse_extended_mode(format_of(format))(text);
     plain(text, answer, |mode| mode.bits())
-}
-
-/// As many fragments as there are, each behind blanks.
-pub fn parse_reloc_frag(format: Format, text: &str) -> Used<Vec<Fragment>> {
-    let answer = source::parse_reloc_frag(format_of(format))(text);
-    plain(text, answer, |fragments| plain_fragments(&fragments))
 }
 
 /// A T line and its R line.

@@ -1,13 +1,24 @@
-//! What was read, seen in the lent buffers.
-use crate::raw::{Header, Widths};
+//! The records that were read, seen in the lent buffers.
+use crate::raw::{self, ReadNumbers};
+use crate::refusal::Refusal;
+use std::fmt;
 
-/// Whether all of a text was read.
+/// What a header tells.
 #[derive(Clone, Copy, Debug, PartialEq, Eq)]
-pub enum Verdict {
-    /// No byte is left.
-    Finished,
-    /// The place of the next byte.
-    Stopped(usize),
+pub struct Header {
+    /// The radix of numbers: 16, 10 or 8.
+    pub radix: u32,
+    /// Whether a number's highest byte comes first.
+    pub big: bool,
+    /// The bytes of an address: 2, 3 or 4.
+    pub width: u32,
+}
+
+/// What a text's header tells, or [`Refusal::NoHeader`].
+pub fn header(text: &[u8]) -> Result<Header, Refusal> {
+    let numbers = raw::header(text);
+    Refusal::told(numbers.refusal)?;
+    Ok(Header { radix: numbers.radix, big: numbers.big == 1, width: numbers.width })
 }
 
 /// How much there is.
@@ -29,6 +40,7 @@ pub struct Counts {
 
 /// An A line.
 #[derive(Clone, Copy, Debug, PartialEq, Eq)]
+#[non_exhaustive]
 pub struct Area<'a> {
     /// Its name.
     pub name: &'a str,
@@ -41,24 +53,28 @@ pub struct Area<'a> {
 }
 
 impl Area<'_> {
-    /// Flag 08.
-    pub fn absolute(&self) -> bool {
+    /// Whether it has a fixed place: flag 08.
+    #[must_use]
+    pub fn is_absolute(&self) -> bool {
         self.flags & 0x08 != 0
     }
 
-    /// Flag 20.
-    pub fn code(&self) -> bool {
+    /// Whether it holds code: flag 20.
+    #[must_use]
+    pub fn is_code(&self) -> bool {
         self.flags & 0x20 != 0
     }
 
-    /// A code area with size above 0.
-    pub fn kept(&self) -> bool {
-        self.code() && self.size > 0
+    /// Whether it is a code area with size above 0.
+    #[must_use]
+    pub fn is_kept(&self) -> bool {
+        self.is_code() && self.size > 0
     }
 }
 
 /// An S line.
 #[derive(Clone, Copy, Debug, PartialEq, Eq)]
+#[non_exhaustive]
 pub struct Symbol<'a> {
     /// Its name.
     pub name: &'a str,
@@ -70,8 +86,18 @@ pub struct Symbol<'a> {
     pub area: Option<usize>,
 }
 
+/// What a fixup refers to.
+#[derive(Clone, Copy, Debug, PartialEq, Eq)]
+pub enum Refers<'a> {
+    /// An outside symbol, by its name.
+    Outside(&'a str),
+    /// A kept area, by its id.
+    Area(usize),
+}
+
 /// A fixup's row.
 #[derive(Clone, Copy, Debug, PartialEq, Eq)]
+#[non_exhaustive]
 pub struct FixupRow<'a> {
     /// The id of the area it lies in.
     pub home: usize,
@@ -81,8 +107,8 @@ pub struct FixupRow<'a> {
     pub size: usize,
     /// Its mode, below 2,048.
     pub mode: u32,
-    /// The outside symbol's name, or the id of the kept area that it refers to.
-    pub refers: Result<&'a str, usize>,
+    /// What it refers to.
+    pub refers: Refers<'a>,
     /// The value of what it refers to.
     pub value: u32,
     /// Its number, below 2^24.
@@ -91,6 +117,7 @@ pub struct FixupRow<'a> {
 
 /// A kept area: its index and id in the module, and its image.
 #[derive(Clone, Copy, Debug, PartialEq, Eq)]
+#[non_exhaustive]
 pub struct Kept<'a> {
     /// Its index among all areas.
     pub index: usize,
@@ -104,31 +131,55 @@ pub struct Kept<'a> {
     pub masks: &'a [u8],
 }
 
-/// The used parts of the lent buffers.
+/// Records of a text and what they give, in the order of the text. Whether they are all records of
+/// a module is told by the type that they come from.
 #[derive(Clone, Copy)]
-pub(crate) struct Rows<'a> {
-    pub areas: &'a [u32],
-    pub symbols: &'a [u32],
-    pub values: &'a [u8],
-    pub masks: &'a [u8],
-    pub fixups: &'a [u32],
-    pub widths: Widths,
-}
-
-/// What a reader read from a text.
-#[derive(Clone, Copy)]
-pub struct Reading<'a> {
+pub struct Records<'a> {
     pub(crate) text: &'a [u8],
-    /// The header.
-    pub header: Header,
-    /// How much there is.
-    pub counts: Counts,
-    /// Whether all of it was read.
-    pub verdict: Verdict,
-    pub(crate) rows: Rows<'a>,
+    pub(crate) header: Header,
+    pub(crate) counts: Counts,
+    pub(crate) areas: &'a [u32],
+    pub(crate) symbols: &'a [u32],
+    pub(crate) values: &'a [u8],
+    pub(crate) masks: &'a [u8],
+    pub(crate) fixups: &'a [u32],
 }
 
-impl<'a> Reading<'a> {
+impl fmt::Debug for Records<'_> {
+    /// The header and the counts, without the rows.
+    fn fmt(&self, out: &mut fmt::Formatter) -> fmt::Result {
+        let mut shown = out.debug_struct("Records");
+        shown.field("header", &self.header).field("counts", &self.counts).finish_non_exhaustive()
+    }
+}
+
+impl Counts {
+    /// The counts of the library's answer.
+    pub(crate) fn told(read: &ReadNumbers) -> Self {
+        Counts {
+            areas: read.areas,
+            symbols: read.symbols,
+            lines: read.lines,
+            kept: read.kept,
+            positions: read.positions,
+            fixups: read.fixups,
+        }
+    }
+}
+
+impl<'a> Records<'a> {
+    /// What the header tells.
+    #[must_use]
+    pub fn header(&self) -> Header {
+        self.header
+    }
+
+    /// How much there is.
+    #[must_use]
+    pub fn counts(&self) -> Counts {
+        self.counts
+    }
+
     /// The name at a place of the text; an accepted text has no byte above 127.
     fn name(&self, place: u32, length: u32) -> &'a str {
         let name = &self.text[place as usize..][..length as usize];
@@ -137,9 +188,9 @@ impl<'a> Reading<'a> {
 
     /// The areas in order.
     pub fn areas(&self) -> impl Iterator<Item = Area<'a>> + 'a {
-        let reading = *self;
-        self.rows.areas.chunks_exact(self.rows.widths.area).map(move |row| Area {
-            name: reading.name(row[0], row[1]),
+        let records = *self;
+        self.areas.chunks_exact(raw::widths().area).map(move |row| Area {
+            name: records.name(row[0], row[1]),
             size: row[2],
             flags: row[3],
             addr: (row[4] == 1).then_some(row[5]),
@@ -148,9 +199,9 @@ impl<'a> Reading<'a> {
 
     /// The symbols in order.
     pub fn symbols(&self) -> impl Iterator<Item = Symbol<'a>> + 'a {
-        let reading = *self;
-        self.rows.symbols.chunks_exact(self.rows.widths.symbol).map(move |row| Symbol {
-            name: reading.name(row[0], row[1]),
+        let records = *self;
+        self.symbols.chunks_exact(raw::widths().symbol).map(move |row| Symbol {
+            name: records.name(row[0], row[1]),
             outside: row[2] == 1,
             value: row[3],
             area: (row[4] as usize).checked_sub(1),
@@ -159,16 +210,15 @@ impl<'a> Reading<'a> {
 
     /// The fixups, area by area.
     pub fn fixups(&self) -> impl Iterator<Item = FixupRow<'a>> + 'a {
-        let reading = *self;
-        self.rows.fixups.chunks_exact(self.rows.widths.fixup).map(move |row| FixupRow {
+        let records = *self;
+        self.fixups.chunks_exact(raw::widths().fixup).map(move |row| FixupRow {
             home: row[0] as usize,
             position: row[1] as usize,
             size: row[2] as usize,
             mode: row[3],
-            refers: if row[4] == 1 {
-                Ok(reading.name(row[5], row[6]))
-            } else {
-                Err(row[5] as usize)
+            refers: match row[4] {
+                1 => Refers::Outside(records.name(row[5], row[6])),
+                _ => Refers::Area(row[5] as usize),
             },
             value: row[7],
             number: row[8],
@@ -177,8 +227,8 @@ impl<'a> Reading<'a> {
 
     /// The kept areas in order of their ids.
     pub fn kept(&self) -> impl Iterator<Item = Kept<'a>> + 'a {
-        let (mut values, mut masks) = (self.rows.values, self.rows.masks);
-        let kept = self.areas().enumerate().filter(|(_, area)| area.kept());
+        let (mut values, mut masks) = (self.values, self.masks);
+        let kept = self.areas().enumerate().filter(|(_, area)| area.is_kept());
         kept.enumerate().map(move |(id, (index, area))| {
             let size = area.size as usize;
             let image = (&values[..size], &masks[..size]);

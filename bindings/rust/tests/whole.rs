@@ -1,0 +1,119 @@
+//! What is whole and what is not: every cut of a module, refusals, and the plain reading beside them.
+use gatecobalt::{rooms, Fault, Lent, NotWhole, Reader, Reference, Refers, Refusal, Refused};
+
+/// A small module with two fixups.
+const DEMO: &[u8] = include_bytes!("../../c/demo.rel");
+
+/// The places behind the demo's header and records; its last two lines are one record.
+fn record_ends() -> Vec<usize> {
+    let mut ends: Vec<usize> = (1..=DEMO.len()).filter(|at| DEMO[at - 1] == b'\n').collect();
+    ends.remove(ends.len() - 2);
+    ends
+}
+
+/// A text that is refused with this, at this place.
+fn refused(refusal: Refusal, place: usize) -> Fault {
+    Fault::Refused(Refused { refusal, place })
+}
+
+/// The fault of a text, or none.
+fn fault(text: &[u8]) -> Option<Fault> {
+    Reader::new().whole(text).err().map(Fault::from)
+}
+
+#[test]
+fn every_cut_is_told_but_behind_a_record() {
+    let (ends, mut reader) = (record_ends(), Reader::new());
+    for cut in 0..=DEMO.len() {
+        let read = reader.whole(&DEMO[..cut]);
+        match (ends.iter().rfind(|end| **end <= cut), read) {
+            (None, Err(NotWhole::Refused(bad))) => {
+                assert_eq!(Fault::Refused(bad), refused(Refusal::NoHeader, 0));
+            }
+            (Some(end), Ok(module)) => assert_eq!((*end, module.header().width), (cut, 3)),
+            (Some(end), Err(NotWhole::Stopped(stopped))) => {
+                assert!(*end < cut && stopped.place() == *end, "cut at {cut}");
+            }
+            (end, read) => panic!("cut at {cut}, last record's end {end:?}: {read:?}"),
+        }
+    }
+}
+
+#[test]
+fn a_stop_keeps_what_was_read() {
+    let (ends, mut reader) = (record_ends(), Reader::new());
+    let last = ends[ends.len() - 2];
+    let Err(NotWhole::Stopped(stopped)) = reader.whole(&DEMO[..DEMO.len() - 1]) else {
+        panic!("a cut text is a module");
+    };
+    let (partial, counts) = (stopped.partial_segments(0), stopped.up_to_there().counts());
+    assert_eq!((partial.len(), partial[0].fixups.len(), counts.lines), (1, 0, 0));
+    assert_eq!(stopped.place(), last);
+    let whole = reader.whole(&DEMO[..last]).expect("the records up to there");
+    assert_eq!((whole.segments(0), whole.counts()), (partial, counts));
+}
+
+#[test]
+fn a_whole_module_is_seen() {
+    let mut reader = Reader::new();
+    let module = reader.whole(DEMO).expect("a whole module");
+    let area = module.areas().next().expect("an area");
+    assert_eq!((area.name, area.size, area.addr), ("CSEG", 6, Some(0)));
+    assert!(area.is_code() && area.is_kept() && !area.is_absolute() && module.header().big);
+    let refers: Vec<Refers> = module.records().fixups().map(|row| row.refers).collect();
+    assert_eq!(refers, [Refers::Outside("_put"), Refers::Area(0)]);
+}
+
+#[test]
+fn ids_are_counted_on() {
+    let mut reader = Reader::new();
+    let segments = reader.whole(DEMO).expect("a whole module").segments(5);
+    assert_eq!(segments[0].fixups[1].reference, Reference::Segment(5, 0));
+}
+
+#[test]
+fn refusals_have_their_numbers_and_places() {
+    let long = [DEMO, &vec![b'\n'; 65_537 - DEMO.len()]].concat();
+    assert_eq!(fault(&long), Some(refused(Refusal::LongText, 0)));
+    assert_eq!(fault(b"XH3\nM \x80\n"), Some(refused(Refusal::HighByte, 6)));
+    assert_eq!(fault(b""), Some(refused(Refusal::NoHeader, 0)));
+    for number in 0..40 {
+        let refusal = Refusal::from_number(number);
+        assert_eq!(refusal.is_some(), (1..=14).contains(&number));
+        assert_eq!(refusal.map_or(number, Refusal::number), number);
+    }
+}
+
+#[test]
+fn a_fault_says_what_and_where() {
+    let said = |text| fault(text).map(|fault| fault.to_string());
+    assert_eq!(said(DEMO), None);
+    assert_eq!(said(b"XH3\nM x"), Some("stopped at 4".into()));
+    assert_eq!(said(b"XH3"), Some("refused 4 at 0: no header".into()));
+}
+
+#[test]
+fn a_short_buffer_is_refused() {
+    let rooms = rooms();
+    let (mut areas, mut symbols) = (vec![0; rooms.areas], vec![0; rooms.symbols]);
+    let (mut values, mut masks) = (vec![0; rooms.values], vec![0; rooms.masks]);
+    let mut fixups = vec![0; rooms.fixups - 1];
+    let lent = Lent {
+        areas: &mut areas,
+        symbols: &mut symbols,
+        values: &mut values,
+        masks: &mut masks,
+        fixups: &mut fixups,
+    };
+    let fault = lent.whole(DEMO).err().map(Fault::from);
+    assert_eq!(fault, Some(refused(Refusal::ShortBuffer, 0)));
+}
+
+#[test]
+fn the_plain_reading_is_no_verdict() {
+    let mut reader = Reader::new();
+    let whole = reader.plain(DEMO).expect("read").ended_at();
+    let cut = reader.plain(&DEMO[..DEMO.len() - 1]).expect("read");
+    assert_eq!((whole, cut.ended_at(), cut.left_from()), (DEMO.len() - 1, DEMO.len() - 1, None));
+    assert_eq!(cut.plain_segments(0)[0].fixups.len(), 2);
+}
