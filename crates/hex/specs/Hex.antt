@@ -16,3 +16,7 @@ hexDigits (suc k) n = capital (n / 16 ^ k % 16) ∷ hexDigits k n
 -- a position's value and mask, with a blank in front
 abbrev pub valueAndMask : ℕ → ℕ → List ℕ
 valueAndMask v m = 32 ∷ (hexDigits 2 v ++ (47 ∷ hexDigits 2 m))
+
+-- a byte that is not shown as it is: a backslash, an x and two digits
+abbrev pub escaped : ℕ → List ℕ
+escaped b = 92 ∷ (120 ∷ hexDigits 2 b)

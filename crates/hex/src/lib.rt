@@ -2,7 +2,7 @@
 ghost use mathlib.Core.Path.{_≡_};
 ghost use Prim.Native.Nat.{_<_, _/_, _%_};
 ghost use lib.ListN.{length};
-ghost use Rattle.hex.specs.Hex.{capital, hexDigits, valueAndMask};
+ghost use Rattle.hex.specs.Hex.{capital, hexDigits, valueAndMask, escaped};
 
 // The digit of a number that is worth this much.
 fn digit(n: usize, worth: usize) -> u8
@@ -35,9 +35,9 @@ pub fn six(n: usize) -> [u8; 6]
     ensures { λ r. ⌜ 6 ≡ length r ⌝ }
 {
     [
-        digit(n, 1048576),
-        digit(n, 65536),
-        digit(n, 4096),
+        digit(n, 0x10_0000),
+        digit(n, 0x1_0000),
+        digit(n, 0x1000),
         digit(n, 256),
         digit(n, 16),
         digit(n, 1),
@@ -74,4 +74,12 @@ pub fn value_and_mask(value: usize, mask: usize) -> [u8; 6]
         digit(mask, 16),
         digit(mask, 1),
     ]
+}
+
+// A byte that is not shown as it is: a backslash, an x and two digits.
+pub fn escape(byte: usize) -> [u8; 4]
+    ensures { λ r. ⌜ r ≡ escaped byte ⌝ }
+    ensures { λ r. ⌜ 4 ≡ length r ⌝ }
+{
+    [92, b'x', digit(byte, 16), digit(byte, 1)]
 }

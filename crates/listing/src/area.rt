@@ -1,12 +1,10 @@
 // The lines of kept areas.
 ghost use Prim.Native.Nat.{_≤_};
-use crate::digits;
 use crate::fixup;
 use crate::rows;
-use crate::sink;
-use crate::sink::Buffer;
-use crate::sink::Sink;
 use crate::symbol;
+use console::Buffer;
+use console::Sink;
 
 // The columns of an area row.
 const SIZE: usize = 2;
@@ -33,18 +31,18 @@ fn count(row: &[u32]) -> usize
 // Whether an area is relocatable or absolute, and the base of an absolute one.
 fn kind(s: Sink, out: &mut Buffer, row: &[u32]) -> Sink {
     if rows::field(row, FLAGS) / 8 % 2 == 1 {
-        return digits::hex8(s, out, b" absolute ", rows::field(row, ADDR));
+        return console::hex8(s, out, b" absolute ", rows::field(row, ADDR));
     }
-    sink::put(s, out, b" relocatable")
+    console::put(s, out, b" relocatable")
 }
 
 // An area's own line.
 fn title(s: Sink, out: &mut Buffer, row: &[u32], index: usize, id: usize) -> Sink {
-    let s1 = digits::decimal(s, out, b"area ", index);
-    let s2 = digits::decimal(s1, out, b" id ", id);
+    let s1 = console::decimal(s, out, b"area ", index);
+    let s2 = console::decimal(s1, out, b" id ", id);
     let s3 = kind(s2, out, row);
-    let s4 = digits::decimal(s3, out, b" size ", rows::field(row, SIZE));
-    sink::put(s4, out, b"\n")
+    let s4 = console::decimal(s3, out, b" size ", rows::field(row, SIZE));
+    console::put(s4, out, b"\n")
 }
 
 // What stands in front of a position: at every eighth a new row begins with its number.
@@ -53,9 +51,14 @@ fn row_start(s: Sink, out: &mut Buffer, position: usize) -> Sink {
         return s;
     }
     if position == 0 {
-        return digits::hex4(s, out, b"", position);
+        return console::hex4(s, out, b"", position);
     }
-    digits::hex4(s, out, b"\n", position)
+    console::hex4(s, out, b"\n", position)
+}
+
+// A position's value and mask, two digits each.
+fn position(s: Sink, out: &mut Buffer, value: u8, mask: u8) -> Sink {
+    console::put(s, out, &hex::value_and_mask(value as usize, mask as usize))
 }
 
 // The rows of an area's image: eight positions a row, each its value and its mask.
@@ -64,10 +67,10 @@ fn image(s: Sink, out: &mut Buffer, values: &[u8], masks: &[u8]) -> Sink {
     let mut i = 0;
     while i < values.len() {
         let begun = row_start(now, out, i);
-        now = digits::position(begun, out, values[i], cells::byte_at(masks, i));
+        now = position(begun, out, values[i], cells::byte_at(masks, i));
         i += 1;
     }
-    sink::put(now, out, b"\n")
+    console::put(now, out, b"\n")
 }
 
 // The lines of an area with this index and id, whose image begins at a place, if it is kept.
@@ -127,7 +130,7 @@ pub(crate) fn lines(
             fixups,
         );
         id += count(row);
-        at = rows::end_of(at, kept_size(row), values.len());
+        at = console::end_of(at, kept_size(row), values.len());
         i += 1;
     }
     now

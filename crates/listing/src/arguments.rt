@@ -1,63 +1,14 @@
-// The program's arguments.
+// What the program's arguments ask for.
 use crate::help;
-use crate::sink;
-use crate::sink::Buffer;
-use crate::sink::Sink;
 use crate::source;
-
-// What the arguments ask for: the listing of what they name, the help, or what is not known, by the
-// argument's number.
-enum Request {
-    Listing,
-    Help,
-    Unknown(usize),
-}
-
-// Whether a word begins as --help does.
-fn is_help(word: &[u8; 8]) -> bool {
-    word[0] == b'-'
-        && word[1] == b'-'
-        && word[2] == b'h'
-        && word[3] == b'e'
-        && word[4] == b'l'
-        && word[5] == b'p'
-}
-
-// What one argument asks for.
-fn request_at(i: usize) -> Request {
-    let mut word = [0u8; 8];
-    let n = os::arg(i, &mut word);
-    if word[0] != b'-' {
-        return Request::Listing;
-    }
-    if n == 6 && is_help(&word) {
-        return Request::Help;
-    }
-    Request::Unknown(i)
-}
-
-// What the arguments ask for: the first that begins with a dash decides.
-fn request_of_all(count: usize) -> Request {
-    let mut i = 1;
-    while i < count {
-        match request_at(i) {
-            Request::Listing => {}
-            Request::Help => {
-                return Request::Help;
-            }
-            Request::Unknown(k) => {
-                return Request::Unknown(k);
-            }
-        }
-        i += 1;
-    }
-    Request::Listing
-}
+use console::Buffer;
+use console::Request;
+use console::Sink;
 
 // Tells of a name that no file can have: how it begins, and why.
 fn too_long(s: Sink, out: &Buffer, name: &mut [u8]) -> Sink {
     cells::copy_bytes(name, 60, b"..", 2);
-    source::complain(s, out, crate::rows::first_bytes(name, 62))
+    console::complain(s, out, console::first_bytes(name, 62))
 }
 
 // Lists the file that an argument names.
@@ -95,8 +46,8 @@ fn list(ended: bool, s: Sink, out: &mut Buffer, count: usize) -> Sink {
 // Does what the arguments ask for, and writes what still waits then.
 fn answered(ended: bool, out: &mut Buffer) {
     let count = os::arg_count();
-    match request_of_all(count) {
-        Request::Listing => written(list(ended, sink::new(), out, count), out),
+    match console::asked(count) {
+        Request::Work => written(list(ended, console::new(), out, count), out),
         Request::Help => help::help(ended),
         Request::Unknown(i) => help::tell_unknown(ended, i),
     }
@@ -104,7 +55,7 @@ fn answered(ended: bool, out: &mut Buffer) {
 
 // Writes what still waits.
 fn written(s: Sink, out: &Buffer) {
-    sink::flush(s, out);
+    console::flush(s, out);
 }
 
 // The whole program.

@@ -1,9 +1,7 @@
 // The lines of fixups.
-use crate::digits;
 use crate::rows;
-use crate::sink;
-use crate::sink::Buffer;
-use crate::sink::Sink;
+use console::Buffer;
+use console::Sink;
 
 // The columns of a fixup row.
 const HOME: usize = 0;
@@ -26,23 +24,23 @@ const NUMBER: usize = 8;
 
 // Where a fixup lies, how many bytes it takes, and its mode.
 fn place(s: Sink, out: &mut Buffer, row: &[u32]) -> Sink {
-    let s1 = digits::hex4(s, out, b"fix ", rows::field(row, POSITION));
-    let s2 = digits::decimal(s1, out, b" ", rows::field(row, SIZE));
-    digits::hex3(s2, out, b" mode ", rows::field(row, MODE))
+    let s1 = console::hex4(s, out, b"fix ", rows::field(row, POSITION));
+    let s2 = console::decimal(s1, out, b" ", rows::field(row, SIZE));
+    console::hex3(s2, out, b" mode ", rows::field(row, MODE))
 }
 
 // What a fixup refers to: an outside symbol by its name, or a kept area by its id.
 fn reference(s: Sink, out: &mut Buffer, text: &[u8], row: &[u32]) -> Sink {
     let what = rows::field(row, WHAT);
     if rows::field(row, OUTSIDE) == 1 {
-        let t = sink::put(s, out, b" pub ");
-        return sink::put(
+        let t = console::put(s, out, b" pub ");
+        return console::put(
             t,
             out,
             rows::bytes_at(text, what, rows::field(row, NAME_LENGTH)),
         );
     }
-    digits::decimal(s, out, b" area ", what)
+    console::decimal(s, out, b" area ", what)
 }
 
 // A fixup's line, if it lies in the area of this id.
@@ -52,9 +50,9 @@ fn line(s: Sink, out: &mut Buffer, text: &[u8], row: &[u32], id: usize) -> Sink 
     }
     let s1 = place(s, out, row);
     let s2 = reference(s1, out, text, row);
-    let s3 = digits::hex8(s2, out, b" ", rows::field(row, VALUE));
-    let s4 = digits::hex6(s3, out, b" offset ", rows::field(row, NUMBER));
-    sink::put(s4, out, b"\n")
+    let s3 = console::hex8(s2, out, b" ", rows::field(row, VALUE));
+    let s4 = console::hex6(s3, out, b" offset ", rows::field(row, NUMBER));
+    console::put(s4, out, b"\n")
 }
 
 // The lines of an area's fixups, in the order of the rows.

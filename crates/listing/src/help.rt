@@ -77,21 +77,8 @@ fn tell_usage(ended: bool) {
     }
 }
 
-// Tells how an option begins that is longer than the buffer.
-fn tell_start(word: &[u8; 64]) {
-    io::write_all(STDERR_FILENO, word);
-    io::write_all(STDERR_FILENO, b"..");
-}
-
 // Tells of an option that is not known.
 pub(crate) fn tell_unknown(ended: bool, i: usize) {
-    let mut word = [0u8; 64];
-    let n = os::arg(i, &mut word);
-    if n == 0 {
-        tell_start(&word);
-    } else {
-        io::write_all(STDERR_FILENO, &word[..n]);
-    }
-    io::write_all(STDERR_FILENO, b": unknown option\n");
+    console::tell_option(i);
     tell_usage(ended)
 }

@@ -2,13 +2,10 @@
 // the listing of each.
 mod area;
 mod arguments;
-mod digits;
 mod fixup;
 mod help;
-mod input;
 mod module;
 mod rows;
-mod sink;
 mod source;
 mod symbol;
 

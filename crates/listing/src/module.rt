@@ -1,36 +1,34 @@
 // The listing of one module's text.
 use crate::area;
-use crate::digits;
 use crate::rows;
-use crate::sink;
-use crate::sink::Buffer;
-use crate::sink::Sink;
+use console::Buffer;
+use console::Sink;
 use reading::Answer;
 use reading::Counts;
 use reading::Verdict;
 
 // The line of a refusal.
 fn refusal(s: Sink, out: &mut Buffer, number: u32, place: usize) -> Sink {
-    let s1 = digits::decimal(s, out, b"refused ", cells::wide(number));
-    let s2 = digits::decimal(s1, out, b" at ", place);
-    sink::put(s2, out, b"\n")
+    let s1 = console::decimal(s, out, b"refused ", cells::wide(number));
+    let s2 = console::decimal(s1, out, b" at ", place);
+    console::put(s2, out, b"\n")
 }
 
 // How many areas, symbols and T and R pairs there are.
 fn summary(s: Sink, out: &mut Buffer, counts: Counts) -> Sink {
-    let s1 = digits::decimal(s, out, b"areas ", counts.areas);
-    let s2 = digits::decimal(s1, out, b" symbols ", counts.symbols);
-    let s3 = digits::decimal(s2, out, b" lines ", counts.lines);
-    sink::put(s3, out, b"\n")
+    let s1 = console::decimal(s, out, b"areas ", counts.areas);
+    let s2 = console::decimal(s1, out, b" symbols ", counts.symbols);
+    let s3 = console::decimal(s2, out, b" lines ", counts.lines);
+    console::put(s3, out, b"\n")
 }
 
 // Whether a byte is left, and where.
 fn rest(s: Sink, out: &mut Buffer, verdict: Verdict) -> Sink {
     match verdict {
-        Verdict::Finished => sink::put(s, out, b"finished\n"),
+        Verdict::Finished => console::put(s, out, b"finished\n"),
         Verdict::Stopped { place } => {
-            let t = digits::decimal(s, out, b"stopped at ", place);
-            sink::put(t, out, b"\n")
+            let t = console::decimal(s, out, b"stopped at ", place);
+            console::put(t, out, b"\n")
         }
     }
 }

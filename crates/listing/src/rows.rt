@@ -1,13 +1,5 @@
 // Parts of lent rows and bytes, none of them past the end.
 
-// The first n bytes, or all where there are fewer.
-pub(crate) fn first_bytes(bytes: &[u8], n: usize) -> &[u8] {
-    if n <= bytes.len() {
-        return &bytes[0..n];
-    }
-    bytes
-}
-
 // The bytes from a place on, n of them, or none where there are fewer.
 pub(crate) fn bytes_at(bytes: &[u8], at: usize, n: usize) -> &[u8] {
     if at <= bytes.len() {
@@ -45,14 +37,4 @@ pub(crate) fn fixup_rows(rows: &[u32], n: usize) -> &[u32] {
 // A row's number as a count or a place.
 pub(crate) fn field(row: &[u32], column: usize) -> usize {
     cells::wide(cells::at(row, column))
-}
-
-// The place behind n bytes from a place on, but not past the end.
-pub(crate) fn end_of(at: usize, n: usize, end: usize) -> usize {
-    if at <= end {
-        if n <= end - at {
-            return at + n;
-        }
-    }
-    end
 }

@@ -1,48 +1,29 @@
 // Where texts come from: standard input and files by name.
-use crate::input;
-use crate::input::Input;
 use crate::module;
-use crate::rows;
-use crate::sink;
-use crate::sink::Buffer;
-use crate::sink::Sink;
-
-// One byte more than the longest text, so that a text that is too long is seen to be.
-const ROOM: usize = 65537;
-
-// Tells why the last call failed, behind what was listed before.
-pub(crate) fn complain(s: Sink, out: &Buffer, name: &[u8]) -> Sink {
-    let t = sink::flush(s, out);
-    if !t.broken {
-        os::fail(name);
-    }
-    t
-}
-
-// Fills the whole room.
-fn fill(fd: i32, room: &mut [u8; ROOM]) -> Input {
-    input::fill(fd, room)
-}
+use console::Buffer;
+use console::Input;
+use console::Room;
+use console::Sink;
 
 // Lists the first n bytes of the room.
-fn list_first(ended: bool, s: Sink, out: &mut Buffer, room: &[u8; ROOM], n: usize) -> Sink {
-    module::list(ended, s, out, rows::first_bytes(room, n))
+fn list_first(ended: bool, s: Sink, out: &mut Buffer, room: &Room, n: usize) -> Sink {
+    module::list(ended, s, out, console::first_bytes(room, n))
 }
 
 // The line with a file's name, over its listing.
 fn title(s: Sink, out: &mut Buffer, name: &[u8], titled: bool) -> Sink {
     if titled {
-        let named = sink::put(s, out, name);
-        return sink::put(named, out, b":\n");
+        let named = console::put(s, out, name);
+        return console::put(named, out, b":\n");
     }
     s
 }
 
 // Lists the text that a descriptor gives.
 fn list_input(ended: bool, s: Sink, out: &mut Buffer, fd: i32, name: &[u8], titled: bool) -> Sink {
-    let mut room = [0u8; ROOM];
-    match fill(fd, &mut room) {
-        Input::Failed => complain(s, out, name),
+    let mut room = [0u8; 65537];
+    match console::fill(fd, &mut room) {
+        Input::Failed => console::complain(s, out, name),
         Input::Text(n) => {
             let t = title(s, out, name, titled);
             list_first(ended, t, out, &room, n)
@@ -58,9 +39,9 @@ pub(crate) fn list_standard(ended: bool, s: Sink, out: &mut Buffer) -> Sink {
 // Tells why a file cannot be opened.
 fn unopened(s: Sink, out: &Buffer, name: &[u8]) -> Sink {
     if name.len() == 0 {
-        return complain(s, out, b"(empty name)");
+        return console::complain(s, out, b"(empty name)");
     }
-    complain(s, out, name)
+    console::complain(s, out, name)
 }
 
 // Lists the module of a file under a line with its name.

@@ -1,9 +1,7 @@
 // The lines of symbols.
-use crate::digits;
 use crate::rows;
-use crate::sink;
-use crate::sink::Buffer;
-use crate::sink::Sink;
+use console::Buffer;
+use console::Sink;
 
 // The columns of a symbol row.
 const NAME: usize = 0;
@@ -24,10 +22,10 @@ fn line(s: Sink, out: &mut Buffer, text: &[u8], row: &[u32], area: usize) -> Sin
         return s;
     }
     let name = rows::bytes_at(text, rows::field(row, NAME), rows::field(row, NAME_LENGTH));
-    let s1 = sink::put(s, out, b"sym ");
-    let s2 = sink::put(s1, out, name);
-    let s3 = digits::hex8(s2, out, b" ", rows::field(row, VALUE));
-    sink::put(s3, out, b"\n")
+    let s1 = console::put(s, out, b"sym ");
+    let s2 = console::put(s1, out, name);
+    let s3 = console::hex8(s2, out, b" ", rows::field(row, VALUE));
+    console::put(s3, out, b"\n")
 }
 
 // The lines of an area's symbols, in the text's order.

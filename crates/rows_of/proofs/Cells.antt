@@ -9,8 +9,10 @@ use lib.ListN.{length, take, drop, getD, List·getD-eq-default}
 use lib.Dec.{eqb}
 use borrow.Author.Needs.{needs}
 use borrow.Author.Tests.{le-leb, lt-leb}
-use Rattle.laws.specs.Rows.{symbolAt}
-use Rattle.rows_of.specs.Parts.{partOf, nameIn}
+use Rattle.laws.specs.Rows.{symbolAt, fixupFrom, fixupRow}
+use Rattle.rows_of.specs.Parts.{partOf, nameIn, nameOf}
+use Rattle.rows_of.specs.Fixups.{toldFixup}
+use Rattle.rows_of.specs.declared.fixup.Fixup.{Fixup}
 
 -- `part`
 module _ (s : List ℕ) (a n : ℕ) where
@@ -68,3 +70,28 @@ module _ (s : List ℕ) (i : ℕ) where
   symbol-value e = e
 
 pub ruleset symbols = (needs, symbol-name, symbol-ref, symbol-value)
+
+-- a fixup's row
+module _ (s : List ℕ) (i : ℕ) where
+  pub fixup-name : (t : List ℕ) {r : List ℕ} {a n x y : ℕ} → x ≡ getD s (9 * i + 5) 0 → a ≡ x → y ≡ getD s (9 * i + 6) 0 → n ≡ y → r ≡ partOf t a n → r ≡ nameOf t (fixupRow s i)
+  unfolding fixupRow fixupFrom
+  fixup-name t {r} {a} {n} e f g h k =
+      k ∙ (ap (λ (m : ℕ). partOf t m n) (f ∙ e) ∙ ap (λ (m : ℕ). partOf t (getD s (9 * i + 5) 0) m) (h ∙ g))
+
+  pub fixup-told : {a b c d e f g h k : ℕ} →
+      a ≡ getD s (9 * i + 0) 0 → b ≡ getD s (9 * i + 1) 0 → c ≡ getD s (9 * i + 2) 0 → d ≡ getD s (9 * i + 3) 0 → e ≡ getD s (9 * i + 4) 0 →
+      f ≡ getD s (9 * i + 5) 0 → g ≡ getD s (9 * i + 6) 0 → h ≡ getD s (9 * i + 7) 0 → k ≡ getD s (9 * i + 8) 0 →
+      toldFixup (record { home = a; position = b; size = c; mode = d; outside = e; what = f; length = g; value = h; number = k }) ≡ fixupRow s i
+  unfolding fixupRow fixupFrom
+  fixup-told p0 p1 p2 p3 p4 p5 p6 p7 p8 =
+      let z : 9 * i + 0 ≡ 9 * i = add-zero (9 * i) in
+      λ j. record {
+        home = (p0 ∙ ap (λ (m : ℕ). getD s m 0) z) j;
+        position = p1 j;
+        size = p2 j;
+        mode = p3 j;
+        refers = record { outside = p4 j; what = p5 j; length = p6 j; value = p7 j };
+        number = p8 j;
+      }
+
+pub ruleset fixups = (needs, fixup-name, fixup-told)

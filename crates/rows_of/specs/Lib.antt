@@ -1,3 +1,4 @@
+pub mod Fixups
 pub mod Parts
 pub mod Ranges
 pub mod Told

@@ -1,12 +1,16 @@
--- `listing::input::fill` is safe and ends: the measure is the number of turns that are left. Assumes nothing.
 use borrow.Author.Needs.{needs}
+use Prim.Native.Nat.{_≤_}
 use mathlib.Core.Path.{_≡_}
 use lib.ListN.{length}
-use Rattle.listing.proofs.input.fill.Statement.{statement}
-use Rattle.listing.proofs.input.fill.Tie as tie
+use Rattle.console.proofs.input.fill_part.Statement.{statement}
+use Rattle.console.proofs.input.fill_part.Tie as tie
+use Rattle.console.proofs.input.fill_part.Reads as reads
+use Rattle.console.proofs.input.fill_part.Lts as lts
+use Rattle.console.proofs.input.read_from.Reads as read-from-reads
+use Rattle.console.proofs.part.end_of.Reads as end-of-reads
 
 abbrev Inv-loop : tie.InvT-loop
-Inv-loop fd room₀ turns₀ n₀ room turns n = length room ≡ length room₀
+Inv-loop fd room₀ turns₀ n₀ room turns n = (length room ≡ length room₀) × (n ≤ length room₀)
 
 abbrev μ-loop : tie.MeasureT-loop
 μ-loop fd room₀ turns₀ n₀ room turns n = turns
@@ -17,8 +21,11 @@ loop-holds c = search needs
 read-from-requires : tie.Need-read-from-requires Inv-loop μ-loop
 read-from-requires c κs = search needs
 
-enum-known-next : tie.Need-enum-known-next Inv-loop μ-loop
-enum-known-next c = search needs
+enum-known-more : tie.Need-enum-known-more Inv-loop μ-loop
+enum-known-more c = search needs
+
+end-of-requires : tie.Need-end-of-requires Inv-loop μ-loop
+end-of-requires c κs = search needs
 
 enum-told : tie.Need-enum-told Inv-loop μ-loop
 enum-told c = search needs
@@ -53,15 +60,16 @@ same-length-3 c = search needs
 returns-3 : tie.Need-returns-3 Inv-loop μ-loop
 returns-3 c = search needs
 
-pub fill-spec : {M : Type 1} → statement M
-fill-spec =
+pub fill-part-spec : {M : Type 1} → statement M
+fill-part-spec =
     tie.close
     (tie.spec
     Inv-loop
     μ-loop
     loop-holds
     read-from-requires
-    enum-known-next
+    enum-known-more
+    end-of-requires
     enum-told
     same-length
     returns

@@ -1,8 +1,10 @@
--- `listing::arguments::request_of_all` is safe and ends: the arguments that are left are fewer each turn. Assumes nothing.
 use borrow.Author.Needs.{needs}
 use Prim.Native.Nat.{_-_}
-use Rattle.listing.proofs.arguments.request_of_all.Statement.{statement}
-use Rattle.listing.proofs.arguments.request_of_all.Tie as tie
+use Rattle.console.proofs.arguments.asked.Statement.{statement}
+use Rattle.console.proofs.arguments.asked.Tie as tie
+use Rattle.console.proofs.arguments.asked.Reads as reads
+use Rattle.console.proofs.arguments.asked.Lts as lts
+use Rattle.console.proofs.arguments.request_at.Reads as request-at-reads
 
 abbrev Inv-loop : tie.InvT-loop
 Inv-loop count i₀ i = Unit {0}
@@ -43,8 +45,8 @@ loop-again c = search needs
 returns-3 : tie.Need-returns-3 Inv-loop μ-loop
 returns-3 c = search needs
 
-pub request-of-all-spec : {M : Type 1} → statement M
-request-of-all-spec =
+pub asked-spec : {M : Type 1} → statement M
+asked-spec =
     tie.close
     (tie.spec
     Inv-loop

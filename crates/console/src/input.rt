@@ -1,4 +1,10 @@
 // A whole text out of a descriptor.
+ghost use lib.ListN.{length};
+ghost use Rattle.console.specs.Inputs.{Within};
+use crate::part;
+
+// One byte more than the longest text, so that a text that is too long is seen to be.
+pub type Room = [u8; 65537];
 
 // What one read gives: bytes, the end, or an error, which errno tells.
 enum Turn {
@@ -8,7 +14,7 @@ enum Turn {
 }
 
 // All that there is to read, or all that the room takes; or an error, which errno tells.
-pub(crate) enum Input {
+pub enum Input {
     Text(usize),
     Failed,
 }
@@ -28,27 +34,25 @@ fn read_once(fd: i32, room: &mut [u8]) -> Turn {
     Turn::Bytes(io::count(got, room))
 }
 
-// Reads from a place of the room on, and answers the place behind what came.
+// Reads from a place of the room on, and answers how many bytes came.
 fn read_from(fd: i32, room: &mut [u8], at: usize) -> Turn {
     if room.len() <= at {
         return Turn::End;
     }
-    match read_once(fd, &mut room[at..]) {
-        Turn::Bytes(n) => Turn::Bytes(crate::rows::end_of(at, n, room.len())),
-        Turn::End => Turn::End,
-        Turn::Failed => Turn::Failed,
-    }
+    read_once(fd, &mut room[at..])
 }
 
 // Reads to the end of the input or of the room. The count of turns, which no input uses up, is
 // there since a proved loop has to end.
-pub(crate) fn fill(fd: i32, room: &mut [u8]) -> Input {
+fn fill_part(fd: i32, room: &mut [u8]) -> Input
+    ensures { λ r. ⌜ Within r (length (now (room .entry))) ⌝ }
+{
     let mut turns = u64::MAX;
     let mut n = 0;
     while 0 < turns {
         match read_from(fd, room, n) {
-            Turn::Bytes(next) => {
-                n = next;
+            Turn::Bytes(more) => {
+                n = part::end_of(n, more, room.len());
             }
             Turn::End => {
                 return Input::Text(n);
@@ -60,4 +64,11 @@ pub(crate) fn fill(fd: i32, room: &mut [u8]) -> Input {
         turns -= 1;
     }
     Input::Text(n)
+}
+
+// Reads a text into the whole room.
+pub fn fill(fd: i32, room: &mut Room) -> Input
+    ensures { λ r. ⌜ Within r (length (now (room .entry))) ⌝ }
+{
+    fill_part(fd, room)
 }

@@ -1,17 +1,21 @@
 // Standard output behind a buffer that the caller lends.
+ghost use mathlib.Core.Path.{_≡_};
+ghost use Rattle.console.specs.Sinks.{empty, lost, Adds, Written};
 use libc::STDOUT_FILENO;
 
 // Where bytes wait until they are written.
-pub(crate) type Buffer = [u8; 65536];
+pub type Buffer = [u8; 65536];
 
 // How many bytes wait at the start of the buffer, and whether a write has failed.
-pub(crate) struct Sink {
+pub struct Sink {
     pub used: usize,
     pub broken: bool,
 }
 
 // Nothing waits yet.
-pub(crate) fn new() -> Sink {
+pub fn new() -> Sink
+    ensures { λ r. ⌜ r ≡ empty ⌝ }
+{
     Sink {
         used: 0,
         broken: false,
@@ -19,7 +23,9 @@ pub(crate) fn new() -> Sink {
 }
 
 // Nothing is written any more.
-fn broken() -> Sink {
+fn broken() -> Sink
+    ensures { λ r. ⌜ r ≡ lost ⌝ }
+{
     Sink {
         used: 0,
         broken: true,
@@ -27,9 +33,14 @@ fn broken() -> Sink {
 }
 
 // Writes the bytes that wait in a slice. A write that fails is told once.
-fn write(s: Sink, out: &[u8]) -> Sink {
+fn write(s: Sink, out: &[u8]) -> Sink
+    ensures { λ r. ⌜ Written s r ⌝ }
+{
     let used = s.used;
-    if s.broken || out.len() < used {
+    if s.broken {
+        return broken();
+    }
+    if out.len() < used {
         return broken();
     }
     if io::write_all(STDOUT_FILENO, &out[0..used]) {
@@ -40,19 +51,22 @@ fn write(s: Sink, out: &[u8]) -> Sink {
 }
 
 // Adds bytes to those that wait in a slice, which are written first where it has no room left.
-fn add(s: Sink, out: &mut [u8], bytes: &[u8]) -> Sink {
+fn add(s: Sink, out: &mut [u8], bytes: &[u8]) -> Sink
+    ensures { λ r. ⌜ Adds s (now (out .entry)) (now (bytes .entry)) r (now (out .exit)) ⌝ }
+{
     let used = s.used;
     let n = bytes.len();
-    if used <= out.len() {
-        if n <= out.len() - used {
-            cells::copy_bytes(out, used, bytes, n);
-            return Sink {
-                used: used + n,
-                broken: s.broken,
-            };
-        }
+    if out.len() < used {
+        return add_first(write(s, out), out, bytes);
     }
-    add_first(write(s, out), out, bytes)
+    if out.len() - used < n {
+        return add_first(write(s, out), out, bytes);
+    }
+    cells::copy_bytes(out, used, bytes, n);
+    Sink {
+        used: used + n,
+        broken: s.broken,
+    }
 }
 
 // Adds bytes where none wait, or writes them at once where they are more than the slice holds.
@@ -70,11 +84,15 @@ fn add_first(s: Sink, out: &mut [u8], bytes: &[u8]) -> Sink {
 }
 
 // Writes what waits.
-pub(crate) fn flush(s: Sink, out: &Buffer) -> Sink {
+pub fn flush(s: Sink, out: &Buffer) -> Sink
+    ensures { λ r. ⌜ Written s r ⌝ }
+{
     write(s, out)
 }
 
 // Adds bytes to what waits.
-pub(crate) fn put(s: Sink, out: &mut Buffer, bytes: &[u8]) -> Sink {
+pub fn put(s: Sink, out: &mut Buffer, bytes: &[u8]) -> Sink
+    ensures { λ r. ⌜ Adds s (now (out .entry)) (now (bytes .entry)) r (now (out .exit)) ⌝ }
+{
     add(s, out, bytes)
 }
