@@ -7,14 +7,16 @@ fn usage(ended: bool) -> bool {
     if ended {
         return io::write_all(
             STDOUT_FILENO,
-            b"usage: list [FILE]...\n\
+            b"usage: list [--] [FILE | --as NAME FILE]...\n\
               Lists object modules by the ended reading: a line counts only if its line end stands behind it.\n",
         );
     }
     io::write_all(
         STDOUT_FILENO,
-        b"usage: list_plain [FILE]...\n\
-          Lists object modules by the plain reading: what is read counts, up to the first byte that cannot be.\n",
+        b"usage: list_plain [--] [FILE | --as NAME FILE]...\n\
+          Lists object modules by the plain reading: what is read counts, up to the first byte that cannot be.\n\
+          It takes a line without its end, so it cannot tell a cut module from a whole one, and gives no verdict: where\n\
+          it ended, of how many bytes, is all that it says. For a verdict use list.\n",
     )
 }
 
@@ -22,17 +24,21 @@ fn usage(ended: bool) -> bool {
 fn lines() -> bool {
     io::write_all(
         STDOUT_FILENO,
-        b"Each FILE is a module, listed under a line with its name; without FILE one module comes from standard input.\n\
+        b"Each FILE is a module, listed under a line with its name, or with NAME; - is standard input. Without FILE one\n\
+          module comes from standard input. A control byte in a name is shown as \\xHH.\n\
           \n\
           areas N symbols N lines N   how many A and S lines, and T and R pairs\n\
-          finished, stopped at PLACE  no byte is left, or the place of the first that is\n\
+          finished, stopped at PLACE  no byte is left, or the place of the first that is (list)\n\
+          plain reading ended at N of M   N of M bytes were read, which is no verdict (list_plain)\n\
           area INDEX id ID ..         an area with code, relocatable or absolute with its base, and its size\n\
           POSITION VALUE/MASK ..      its bytes, eight a row; mask FF: known, 00: not known\n\
           sym NAME VALUE              a symbol behind the area's line\n\
           fix POSITION SIZE ..        bytes to be filled in: mode, outside symbol (pub) or area's id, value, number\n\
           refused NUMBER at PLACE     nothing is listed\n\
           \n\
-          Counts, ids, sizes and places are decimal, the rest is hex. Places count bytes from 0.\n",
+          Counts, ids, sizes and places are decimal, the rest is hex. Places count bytes from 0.\n\
+          Standard error has a line for each module that is stopped (list) or refused, and for each name that cannot be\n\
+          read. With list it stays empty exactly if every module is whole.\n",
     )
 }
 
@@ -65,8 +71,9 @@ pub(crate) fn help(ended: bool) {
     os::fail(b"standard output")
 }
 
-// How the program is called, on standard error.
-fn tell_usage(ended: bool) {
+// Tells of an option that is not known, and how the program is called.
+pub(crate) fn tell_unknown(ended: bool, i: usize) {
+    console::tell_option(i);
     if ended {
         io::write_all(STDERR_FILENO, b"usage: list [FILE]..., or list --help\n");
     } else {
@@ -75,10 +82,4 @@ fn tell_usage(ended: bool) {
             b"usage: list_plain [FILE]..., or list_plain --help\n",
         );
     }
-}
-
-// Tells of an option that is not known.
-pub(crate) fn tell_unknown(ended: bool, i: usize) {
-    console::tell_option(i);
-    tell_usage(ended)
 }

@@ -5,7 +5,6 @@ mod arguments;
 mod fixup;
 mod help;
 mod module;
-mod rows;
 mod source;
 mod symbol;
 

@@ -1,17 +1,17 @@
 // The listing of one module's text.
 use crate::area;
-use crate::rows;
 use console::Buffer;
 use console::Sink;
 use reading::Answer;
 use reading::Counts;
 use reading::Verdict;
 
-// The line of a refusal.
-fn refusal(s: Sink, out: &mut Buffer, number: u32, place: usize) -> Sink {
-    let s1 = console::decimal(s, out, b"refused ", cells::wide(number));
+// The line of a refusal, which is told on standard error as well.
+fn refusal(s: Sink, out: &mut Buffer, name: &[u8], number: usize, place: usize) -> Sink {
+    let s1 = console::decimal(s, out, b"refused ", number);
     let s2 = console::decimal(s1, out, b" at ", place);
-    console::put(s2, out, b"\n")
+    let s3 = console::put(s2, out, b"\n");
+    console::tell_refused(s3, out, name, number, place)
 }
 
 // How many areas, symbols and T and R pairs there are.
@@ -22,13 +22,49 @@ fn summary(s: Sink, out: &mut Buffer, counts: Counts) -> Sink {
     console::put(s3, out, b"\n")
 }
 
-// Whether a byte is left, and where.
-fn rest(s: Sink, out: &mut Buffer, verdict: Verdict) -> Sink {
+// The ended reading's verdict: whether a byte is left, and where.
+fn verdict_line(s: Sink, out: &mut Buffer, verdict: Verdict) -> Sink {
     match verdict {
         Verdict::Finished => console::put(s, out, b"finished\n"),
         Verdict::Stopped { place } => {
             let t = console::decimal(s, out, b"stopped at ", place);
             console::put(t, out, b"\n")
+        }
+    }
+}
+
+// Where a reading of n bytes ended.
+fn place_of(verdict: Verdict, n: usize) -> usize {
+    match verdict {
+        Verdict::Finished => n,
+        Verdict::Stopped { place } => place,
+    }
+}
+
+// Where the plain reading of n bytes ended, in words that are no verdict.
+fn ending_line(s: Sink, out: &mut Buffer, place: usize, n: usize) -> Sink {
+    let s1 = console::decimal(s, out, b"plain reading ended at ", place);
+    let s2 = console::decimal(s1, out, b" of ", n);
+    console::put(s2, out, b"\n")
+}
+
+// The second line.
+fn second(ended: bool, s: Sink, out: &mut Buffer, verdict: Verdict, n: usize) -> Sink {
+    if ended {
+        return verdict_line(s, out, verdict);
+    }
+    ending_line(s, out, place_of(verdict, n), n)
+}
+
+// Tells on standard error of a module that the ended reading did not finish.
+fn told(ended: bool, s: Sink, out: &Buffer, name: &[u8], verdict: Verdict) -> Sink {
+    match verdict {
+        Verdict::Finished => s,
+        Verdict::Stopped { place } => {
+            if ended {
+                return console::tell_stopped(s, out, name, place);
+            }
+            s
         }
     }
 }
@@ -50,32 +86,8 @@ fn read(
     }
 }
 
-// The lines of the kept areas out of what a reading left.
-fn kept(
-    s: Sink,
-    out: &mut Buffer,
-    text: &[u8],
-    counts: Counts,
-    areas: &[u32; 384],
-    symbols: &[u32; 5120],
-    values: &[u8; 65536],
-    masks: &[u8; 65536],
-    fixups: &[u32; 9216],
-) -> Sink {
-    area::lines(
-        s,
-        out,
-        text,
-        rows::area_rows(areas, counts.areas),
-        rows::symbol_rows(symbols, counts.symbols),
-        values,
-        masks,
-        rows::fixup_rows(fixups, counts.fixups),
-    )
-}
-
-// A text's whole listing.
-pub(crate) fn list(ended: bool, s: Sink, out: &mut Buffer, text: &[u8]) -> Sink {
+// A text's whole listing, and what standard error is told of a module of this name.
+pub(crate) fn list(ended: bool, s: Sink, out: &mut Buffer, text: &[u8], name: &[u8]) -> Sink {
     let mut areas = [0u32; 384];
     let mut symbols = [0u32; 5120];
     let mut values = [0u8; 65536];
@@ -91,11 +103,11 @@ pub(crate) fn list(ended: bool, s: Sink, out: &mut Buffer, text: &[u8]) -> Sink 
         &mut fixups,
     );
     match answer {
-        Answer::Refusal { number, place } => refusal(s, out, number, place),
+        Answer::Refusal { number, place } => refusal(s, out, name, cells::wide(number), place),
         Answer::Accepted { counts, verdict } => {
             let s1 = summary(s, out, counts);
-            let s2 = rest(s1, out, verdict);
-            kept(
+            let s2 = second(ended, s1, out, verdict, text.len());
+            let s3 = area::lines(
                 s2,
                 out,
                 text,
@@ -105,7 +117,8 @@ pub(crate) fn list(ended: bool, s: Sink, out: &mut Buffer, text: &[u8]) -> Sink 
                 &values,
                 &masks,
                 &fixups,
-            )
+            );
+            told(ended, s3, out, name, verdict)
         }
     }
 }

@@ -1,4 +1,4 @@
-// Where texts come from: standard input and files by name.
+// Where texts come from: standard input, which is called `-`, and files by name.
 use crate::module;
 use console::Buffer;
 use console::Input;
@@ -6,14 +6,14 @@ use console::Room;
 use console::Sink;
 
 // Lists the first n bytes of the room.
-fn list_first(ended: bool, s: Sink, out: &mut Buffer, room: &Room, n: usize) -> Sink {
-    module::list(ended, s, out, console::first_bytes(room, n))
+fn list_first(ended: bool, s: Sink, out: &mut Buffer, room: &Room, n: usize, name: &[u8]) -> Sink {
+    module::list(ended, s, out, console::first_bytes(room, n), name)
 }
 
-// The line with a file's name, over its listing.
+// The line with a module's name, over its listing.
 fn title(s: Sink, out: &mut Buffer, name: &[u8], titled: bool) -> Sink {
     if titled {
-        let named = console::put(s, out, name);
+        let named = console::name(s, out, name);
         return console::put(named, out, b":\n");
     }
     s
@@ -26,14 +26,19 @@ fn list_input(ended: bool, s: Sink, out: &mut Buffer, fd: i32, name: &[u8], titl
         Input::Failed => console::complain(s, out, name),
         Input::Text(n) => {
             let t = title(s, out, name, titled);
-            list_first(ended, t, out, &room, n)
+            list_first(ended, t, out, &room, n, name)
         }
     }
 }
 
 // Lists the module on standard input.
 pub(crate) fn list_standard(ended: bool, s: Sink, out: &mut Buffer) -> Sink {
-    list_input(ended, s, out, libc::STDIN_FILENO, b"standard input", false)
+    list_input(ended, s, out, libc::STDIN_FILENO, b"-", false)
+}
+
+// Whether a file's name stands for standard input.
+fn is_standard(file: &[u8]) -> bool {
+    file.len() == 1 && cells::byte_at(file, 0) == b'-'
 }
 
 // Tells why a file cannot be opened.
@@ -44,9 +49,12 @@ fn unopened(s: Sink, out: &Buffer, name: &[u8]) -> Sink {
     console::complain(s, out, name)
 }
 
-// Lists the module of a file under a line with its name.
-pub(crate) fn list_file(ended: bool, s: Sink, out: &mut Buffer, name: &[u8]) -> Sink {
-    let fd = os::open_read(name);
+// Lists the module of a file under a line with a name.
+pub(crate) fn list_file(ended: bool, s: Sink, out: &mut Buffer, file: &[u8], name: &[u8]) -> Sink {
+    if is_standard(file) {
+        return list_input(ended, s, out, libc::STDIN_FILENO, name, true);
+    }
+    let fd = os::open_read(file);
     if fd < 0 {
         return unopened(s, out, name);
     }

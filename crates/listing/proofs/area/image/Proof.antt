@@ -1,9 +1,13 @@
--- `listing::area::image` is safe and ends: the positions that are left are fewer each turn. Assumes nothing.
 use borrow.Author.Needs.{needs}
 use Prim.Native.Nat.{_-_}
 use lib.ListN.{length}
 use Rattle.listing.proofs.area.image.Statement.{statement}
 use Rattle.listing.proofs.area.image.Tie as tie
+use Rattle.listing.proofs.area.image.Reads as reads
+use Rattle.listing.proofs.area.image.Lts as lts
+use Rattle.area_line.proofs.position.Reads as position-reads
+use Rattle.console.proofs.put.Reads as put-reads
+use Rattle.listing.proofs.area.row_start.Reads as row-start-reads
 
 abbrev Inv-loop : tie.InvT-loop
 Inv-loop out₀ values masks now₀ i₀ t8 out now i = Unit {0}
@@ -16,12 +20,6 @@ loop-holds c = search needs
 
 row-start-requires : tie.Need-row-start-requires Inv-loop μ-loop
 row-start-requires c κs = search needs
-
-shared-slice-read-position : tie.Need-shared-slice-read-position Inv-loop μ-loop
-shared-slice-read-position c = search needs
-
-byte-at-requires : tie.Need-byte-at-requires Inv-loop μ-loop
-byte-at-requires c κs = search needs
 
 position-requires : tie.Need-position-requires Inv-loop μ-loop
 position-requires c κs = search needs
@@ -52,8 +50,6 @@ image-spec =
     μ-loop
     loop-holds
     row-start-requires
-    shared-slice-read-position
-    byte-at-requires
     position-requires
     add-i
     loop-less

@@ -5,19 +5,25 @@ use Rattle.listing.proofs.arguments.list_arguments.Statement.{statement
 use Rattle.listing.proofs.arguments.list_arguments.Tie as tie
 
 abbrev Inv-loop : tie.InvT-loop
-Inv-loop ended out₀ count now₀ i₀ out now i = Unit {0}
+Inv-loop ended out₀ end count now₀ i₀ out now i = Unit {0}
 
 abbrev μ-loop : tie.MeasureT-loop
-μ-loop ended out₀ count now₀ i₀ out now i = count - i
+μ-loop ended out₀ end count now₀ i₀ out now i = count - i
 
 loop-holds : tie.Need-loop-holds Inv-loop μ-loop
 loop-holds c = search needs
 
+operand-at-requires : tie.Need-operand-at-requires Inv-loop μ-loop
+operand-at-requires c κs = search needs
+
 list-argument-requires : tie.Need-list-argument-requires Inv-loop μ-loop
 list-argument-requires c κs = search needs
 
-add-i : tie.Need-add-i Inv-loop μ-loop
-add-i c = search needs
+add-end-of : tie.Need-add-end-of Inv-loop μ-loop
+add-end-of c = search needs
+
+end-of-requires : tie.Need-end-of-requires Inv-loop μ-loop
+end-of-requires c κs = search needs
 
 loop-less : tie.Need-loop-less Inv-loop μ-loop
 loop-less c = search needs
@@ -31,4 +37,14 @@ returns c = search needs
 pub list-arguments-spec : {M : Type 1} → statement M
 list-arguments-spec =
     tie.close
-    (tie.spec Inv-loop μ-loop loop-holds list-argument-requires add-i loop-less loop-again returns)
+    (tie.spec
+    Inv-loop
+    μ-loop
+    loop-holds
+    operand-at-requires
+    list-argument-requires
+    add-end-of
+    end-of-requires
+    loop-less
+    loop-again
+    returns)

@@ -1,45 +1,29 @@
--- `listing::symbol::lines` is safe and ends: the rows that are left are fewer each turn. Assumes nothing.
 use borrow.Author.Needs.{needs}
 use Prim.Native.Nat.{_-_}
-use lib.ListN.{length}
 use Rattle.listing.proofs.symbol.lines.Statement.{statement}
 use Rattle.listing.proofs.symbol.lines.Tie as tie
+use Rattle.listing.proofs.symbol.lines.Reads as reads
+use Rattle.listing.proofs.symbol.lines.Lts as lts
+use Rattle.listing.proofs.symbol.line.Reads as line-reads
+use Rattle.rows_of.proofs.area_symbols.Reads as area-symbols-reads
 
 abbrev Inv-loop : tie.InvT-loop
-Inv-loop out₀ text table area now₀ i₀ out now i = Unit {0}
+Inv-loop out₀ text symbols n area end now₀ j₀ out now j = Unit {0}
 
 abbrev μ-loop : tie.MeasureT-loop
-μ-loop out₀ text table area now₀ i₀ out now i = length table - i
+μ-loop out₀ text symbols n area end now₀ j₀ out now j = end - j
+
+area-symbols-requires : tie.Need-area-symbols-requires Inv-loop μ-loop
+area-symbols-requires c κs = search needs
 
 loop-holds : tie.Need-loop-holds Inv-loop μ-loop
 loop-holds c = search needs
 
-mul-line : tie.Need-mul-line Inv-loop μ-loop
-mul-line c = search needs
-
-mul-line-2 : tie.Need-mul-line-2 Inv-loop μ-loop
-mul-line-2 c = search needs
-
-add-line : tie.Need-add-line Inv-loop μ-loop
-add-line c = search needs
-
-mul-line-3 : tie.Need-mul-line-3 Inv-loop μ-loop
-mul-line-3 c = search needs
-
-sub-line : tie.Need-sub-line Inv-loop μ-loop
-sub-line c = search needs
-
-part-line-start : tie.Need-part-line-start Inv-loop μ-loop
-part-line-start c = search needs
-
-part-line-end : tie.Need-part-line-end Inv-loop μ-loop
-part-line-end c = search needs
-
 line-requires : tie.Need-line-requires Inv-loop μ-loop
 line-requires c κs = search needs
 
-add-i : tie.Need-add-i Inv-loop μ-loop
-add-i c = search needs
+add-j : tie.Need-add-j Inv-loop μ-loop
+add-j c = search needs
 
 loop-less : tie.Need-loop-less Inv-loop μ-loop
 loop-less c = search needs
@@ -56,16 +40,10 @@ lines-spec =
     (tie.spec
     Inv-loop
     μ-loop
+    area-symbols-requires
     loop-holds
-    mul-line
-    mul-line-2
-    add-line
-    mul-line-3
-    sub-line
-    part-line-start
-    part-line-end
     line-requires
-    add-i
+    add-j
     loop-less
     loop-again
     returns)
