@@ -147,7 +147,7 @@ fixups-as-many fm t before behind a b s x =
     ap length (x .fixups) ∙ (simp length-append (omega arith) ∙ sym (ap length (x .other-fixups)))
 
 pub reordered-pairs-leave-the-same-images : (fm : Form) (t : Tables) {ps qs : List (Taken Pair)} (s : State) → Reordered fm t ps qs → placing fm t ps ≡ fine s → Sorted fm t qs s
-reordered-pairs-leave-the-same-images fm t s as-is h = record { other = s; accepted = h; same = same-images (t .areas) s s refl refl; as-many = refl }
+reordered-pairs-leave-the-same-images fm t s as-is h = record { other = s; accepted = h; same = same-images (t .areas) s s refl refl; fixups = placing-rows fm t _ s h; as-many = refl }
 reordered-pairs-leave-the-same-images fm t s (then-exchange before behind a b r d) h =
     let k = reordered-pairs-leave-the-same-images fm t s r h in
     let x = neighbours-in-either-order fm t before behind a b (k .other) d (k .accepted) in
@@ -155,5 +155,6 @@ reordered-pairs-leave-the-same-images fm t s (then-exchange before behind a b r 
       other = x .other;
       accepted = x .accepted (before ++ b ∷ a ∷ behind) refl;
       same = same-images (t .areas) s (x .other) (k .same .values ∙ x .same .values) (k .same .masks ∙ x .same .masks);
+      fixups = placing-rows fm t (before ++ b ∷ a ∷ behind) (x .other) (x .accepted (before ++ b ∷ a ∷ behind) refl);
       as-many = k .as-many ∙ fixups-as-many fm t before behind a b (k .other) x;
     }

@@ -86,4 +86,6 @@ pub record Sorted (fm : Form) (t : Tables) (ps : List (Taken Pair)) (s : State) 
   pub other : State
   pub accepted : placing fm t ps ≡ fine other
   pub same : SameImages (t .areas) s other
+  -- the rows of the pairs in that order, and as many
+  pub fixups : other .fixups ≡ allRows fm t ps
   pub as-many : length (s .fixups) ≡ length (other .fixups)
