@@ -4,7 +4,7 @@
 use Prim.Native.Nat.{ℕ, zero, suc, _+_, _≤_, _<_}
 use mathlib.Core.Path.{_≡_, refl, sym, ap, _∙_}
 use mathlib.Core.Bool.{Bool, true, false}
-use mathlib.Core.List.{List, [], _∷_, _++_, append-assoc, append-nil}
+use mathlib.Core.List.{List, [], _++_, append-assoc, append-nil}
 use mathlib.Core.Option.{Option, none, some}
 use mathlib.Core.Logic.{_⊎_, inl, inr}
 use native.Mathlib.Omega.{arith}
@@ -14,13 +14,14 @@ use Rattle.format.specs.Lists.{flat, pick}
 use Rattle.format.specs.Header.{Form}
 use Rattle.format.specs.Pairs.{Pair, placed, skipped}
 use Rattle.format.specs.Records.{Taken}
-use Rattle.format.specs.Tables.{Area, Tables, kept, keptCount, rank}
+use Rattle.format.specs.Tables.{Tables, keptCount}
 use Rattle.format.specs.Fixups.{Fixup, byArea, ofArea}
 use Rattle.laws.specs.PairRows.{pairRows}
 use Rattle.laws.proofs.Placing.{of-append, pair-rows-for}
 use Rattle.laws.proofs.Room.{flat-append}
 use Rattle.order.specs.Writes.{rows}
-use Rattle.order.specs.Texts.{Runs, home}
+use Rattle.order.specs.Texts.{Runs, areaOf}
+use Rattle.order.proofs.Homes.{home, home-below, no-rank, one-area, one-home}
 
 -- ------------------------------------------------------------------ the rows of one pair
 
@@ -39,23 +40,8 @@ unfolding rows
 rows-of fm t p h id e = go (p .body) e
   where
     go : (b : Pair) → home t b ≡ some h → ofArea id (pairRows fm t (p .place) b) ≡ pick (eqb h id) (pairRows fm t (p .place) b) []
-    go skipped f = let z : _≡_ {A = ℕ} 0 1 = cc in let y : ⊥ = omega arith in absurd y
+    go skipped f = no-rank h f
     go (placed c r) f = pair-rows-for fm t id (p .place) (placed c r) ∙ rw f
-
--- an id is below the number of kept areas
-rank-below : (k : ℕ) (areas : List Area) (i m : ℕ) → rank k areas i ≡ some m → m < k + keptCount areas
-unfolding rank keptCount
-rank-below k [] i m e = let z : _≡_ {A = ℕ} 0 1 = cc in let y : ⊥ = omega arith in absurd y
-rank-below k (a ∷ areas) zero m e = go (kept a) e
-  where
-    go : (t : Bool) → pick t (some k) none ≡ some m → m < k + (pick t 1 0 + keptCount areas)
-    go true f = let same : k ≡ m = cc in omega arith
-    go false f = let z : _≡_ {A = ℕ} 0 1 = cc in let y : ⊥ = omega arith in absurd y
-rank-below k (a ∷ areas) (suc i) m e = omega (arith, rank-below (k + pick (kept a) 1 0) areas i m e)
-
-pub home-below : (t : Tables) (b : Pair) (h : ℕ) → home t b ≡ some h → h < keptCount (t .areas)
-home-below t skipped h e = let z : _≡_ {A = ℕ} 0 1 = cc in let y : ⊥ = omega arith in absurd y
-home-below t (placed c r) h e = omega (arith, rank-below 0 (t .areas) (r .area) h e)
 
 -- ------------------------------------------------------------------ four runs
 
@@ -90,14 +76,14 @@ module _ (fm : Form) (t : Tables) (a b : Taken Pair) (x y : List Fixup) where
   other = x ++ (rows fm t b ++ (rows fm t a ++ y))
 
   -- in different areas, or in none
-  none-of-one : (home t (a .body) ≡ home t (b .body) → ⊥) → (id : ℕ) → (ofArea id (rows fm t a) ≡ []) ⊎ (ofArea id (rows fm t b) ≡ [])
+  none-of-one : (areaOf (a .body) ≡ areaOf (b .body) → ⊥) → (id : ℕ) → (ofArea id (rows fm t a) ≡ []) ⊎ (ofArea id (rows fm t b) ≡ [])
   unfolding ofArea
   none-of-one d id = go (home t (a .body)) (home t (b .body)) refl refl
     where
       both : (h k : ℕ) → home t (a .body) ≡ some h → home t (b .body) ≡ some k → (u : Bool) → eqb h id ≡ u → (ofArea id (rows fm t a) ≡ []) ⊎ (ofArea id (rows fm t b) ≡ [])
       both h k p q false e = inl (rows-of fm t a h id p ∙ rw e)
       both h k p q true e =
-          let n : k ≡ id → ⊥ = λ f. d (p ∙ (ap (λ (m : ℕ). some m) (eqb-true h id e ∙ sym f) ∙ sym q)) in
+          let n : k ≡ id → ⊥ = λ f. d (one-area t (a .body) (b .body) k (p ∙ ap (λ (m : ℕ). some m) (eqb-true h id e ∙ sym f)) q) in
           inr (rows-of fm t b k id q ∙ rw (ne-eqb k id n))
 
       go : (o q : Option ℕ) → home t (a .body) ≡ o → home t (b .body) ≡ q → (ofArea id (rows fm t a) ≡ []) ⊎ (ofArea id (rows fm t b) ≡ [])
@@ -105,7 +91,7 @@ module _ (fm : Form) (t : Tables) (a b : Taken Pair) (x y : List Fixup) where
       go (some h) none e f = inr (rw (no-rows fm t b f))
       go (some h) (some k) e f = both h k e f (eqb h id) refl
 
-  pub grouped-apart : (home t (a .body) ≡ home t (b .body) → ⊥) → (n : ℕ) → byArea n 0 one ≡ byArea n 0 other
+  pub grouped-apart : (areaOf (a .body) ≡ areaOf (b .body) → ⊥) → (n : ℕ) → byArea n 0 one ≡ byArea n 0 other
   grouped-apart d n = by-area-same n 0 one other (λ id l. of-exchanged id x (rows fm t a) (rows fm t b) y (none-of-one d id))
 
   -- in the area with the id h
@@ -148,20 +134,23 @@ module _ (fm : Form) (t : Tables) (a b : Taken Pair) (x y : List Fixup) where
               has-exchanged = rw (← elsewhere k (eqb-false h k e)) (ap (λ (z : List Fixup). ofArea k one ++ z) (r .has-exchanged) ∙ sym (append-assoc (ofArea k one) (r .before) _));
             }
 
-  pub grouped-together : home t (a .body) ≡ home t (b .body) → Runs (rows fm t a) (rows fm t b) (byArea (keptCount (t .areas)) 0 one) (byArea (keptCount (t .areas)) 0 other)
+  pub grouped-together : areaOf (a .body) ≡ areaOf (b .body) → Runs (rows fm t a) (rows fm t b) (byArea (keptCount (t .areas)) 0 one) (byArea (keptCount (t .areas)) 0 other)
   grouped-together e = go (home t (a .body)) refl
     where
+      same : home t (a .body) ≡ home t (b .body)
+      same = one-home t (a .body) (b .body) e
+
       go : (o : Option ℕ) → home t (a .body) ≡ o → Runs (rows fm t a) (rows fm t b) (byArea (keptCount (t .areas)) 0 one) (byArea (keptCount (t .areas)) 0 other)
       go none f =
           let ra = no-rows fm t a f in
-          let rb = no-rows fm t b (sym e ∙ f) in
+          let rb = no-rows fm t b (sym same ∙ f) in
           record {
             before = byArea (keptCount (t .areas)) 0 (x ++ y);
             behind = [];
             has = rw (ra, rb) (sym (append-nil _));
             has-exchanged = rw (ra, rb) (sym (append-nil _));
           }
-      go (some h) f = runs-from h f (sym e ∙ f) (keptCount (t .areas)) 0 (omega arith) (omega (arith, home-below t (a .body) h f))
+      go (some h) f = runs-from h f (sym same ∙ f) (keptCount (t .areas)) 0 (omega arith) (omega (arith, home-below t (a .body) h f))
 
 -- ------------------------------------------------------------------ as numbers
 

@@ -8,6 +8,7 @@ pub mod Lists
 pub mod Places
 pub mod Order
 pub mod TurnedLines
+pub mod Homes
 pub mod Grouped
 pub mod TurnedText
 pub mod Steps

@@ -5,14 +5,14 @@ use Prim.Native.Nat.{ℕ, _-_}
 use mathlib.Core.Path.{_≡_}
 use mathlib.Core.Bool.{Bool, true}
 use mathlib.Core.List.{List, _++_}
-use mathlib.Core.Option.{Option, none}
+use mathlib.Core.Option.{Option, none, some}
 use lib.ListN.{drop, take}
 use Rattle.format.specs.Lists.{flat}
 use Rattle.format.specs.Header.{Form}
 use Rattle.format.specs.Pairs.{Pair, placed, skipped}
 use Rattle.format.specs.Outcome.{fine}
 use Rattle.format.specs.Records.{Taken}
-use Rattle.format.specs.Tables.{Tables, rank}
+use Rattle.format.specs.Tables.{Tables}
 use Rattle.format.specs.Rows.{fixupNumbers}
 use Rattle.format.specs.Reading.{Lent, Read, read, reading}
 use Rattle.laws.specs.PairRows.{allRows}
@@ -39,10 +39,10 @@ pub record OtherText (ended : Bool) (l : Lent) (text : List ℕ) (w : Read) (bef
 unfoldable pub exchanged : (p q r : ℕ) → List ℕ → List ℕ
 exchanged p q r text = take p text ++ (take (r - q) (drop q text) ++ (take (q - p) (drop p text) ++ drop r text))
 
--- the id of the kept area in which a pair lies, if there is one
-abbrev pub home : Tables → Pair → Option ℕ
-home t skipped = none
-home t (placed c r) = rank 0 (t .areas) (r .area)
+-- the index of the area in which a pair lies; a T and P pair lies in none
+abbrev pub areaOf : Pair → Option ℕ
+areaOf skipped = none
+areaOf (placed c r) = some (r .area)
 
 -- rows in two orders: two runs, one behind the other, are exchanged
 pub record Runs {A : Type 0} (one other : List A) (xs ys : List A) : Type 0 where
@@ -61,6 +61,6 @@ pub record ReadAlike (l : Lent) (text other : List ℕ) (fm : Form) (t : Tables)
   pub values : reading true l text .values ≡ reading true l other .values
   pub masks : reading true l text .masks ≡ reading true l other .masks
   pub known : (i : ℕ) → knownBits (t .areas) i (reading true l text .masks) ≡ knownBits (t .areas) i (reading true l other .masks)
-  pub fixups-apart : (home t (a .body) ≡ home t (b .body) → ⊥) → reading true l text .fixups ≡ reading true l other .fixups
-  pub fixups-together : home t (a .body) ≡ home t (b .body)
+  pub fixups-apart : (areaOf (a .body) ≡ areaOf (b .body) → ⊥) → reading true l text .fixups ≡ reading true l other .fixups
+  pub fixups-together : areaOf (a .body) ≡ areaOf (b .body)
       → Runs (flat fixupNumbers (rows fm t a)) (flat fixupNumbers (rows fm t b)) (reading true l text .fixups) (reading true l other .fixups)
