@@ -43,7 +43,8 @@ pub inside-walk : (w : Walk) (n entry position i : ℕ) → written (cellAt (cel
 unfolding cellsOf cellAt cellOf
 inside-walk w zero entry position i h = absurd (false≢true h)
 inside-walk w (suc n) entry position i h =
-    inside-pick (w .start) (w .size) i (ltb position (w .size)) _ []
+    inside-pick (w .start) (w .size) i (ltb position (w .size))
+    (pick (eqb (getD (w .work .keeps) entry 0) 1) (cellOf w entry position ∷ cellsOf w n (suc entry) (suc position)) (cellsOf w n (suc entry) position)) []
     (λ e.
     inside-pick (w .start) (w .size) i (eqb (getD (w .work .keeps) entry 0) 1) (cellOf w entry position ∷ cellsOf w n (suc entry) (suc position)) (cellsOf w n (suc entry) position)
     (λ d. inside-cons (w .start) (w .size) i (cellOf w entry position) (cellsOf w n (suc entry) (suc position)) (let l = ltb-true position (w .size) e in (omega arith, omega arith)) (inside-walk w n (suc entry) (suc position) i))
