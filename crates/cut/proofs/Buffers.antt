@@ -10,9 +10,9 @@ use lib.Dec.{eqb}
 use Rattle.format.specs.Lists.{pick}
 use Rattle.format.specs.Outcome.{Outcome, fine, refused}
 use Rattle.format.specs.Records.{Parsed, Verdict, ends, finished, lastOf, parsed, stop, stopped, verdict}
-use Rattle.format.specs.Reading.{Answer, Counts, Lent, Read, accepted, allowed, build, read, readOf, reading, readingOf, refusal}
+use Rattle.format.specs.Reading.{Answer, Counts, Lent, Read, accepted, read, reading, readingOf, refusal}
 use Rattle.format.specs.Held.{Held, Meets, lengths}
-use Rattle.laws.proofs.Outcomes.{chain}
+use Rattle.laws.proofs.WasRead.{what-was-read}
 use Rattle.laws.proofs.Unique.{laid, meets-laid, nothing-laid}
 use Rattle.cut.specs.Cut.{CutRead, cutRecords}
 use Rattle.cut.specs.CutBuffers.{CutHeld, CutMeets, edges, lastEdge}
@@ -30,16 +30,6 @@ was-read b text c v h = go (read true b text) refl h
     go : (o : Outcome Read) → read true b text ≡ o → accepted c v ≡ readingOf text o .answer → IsRead b text
     go (fine r) e g = record { whole = r; is-fine = e }
     go (refused n p) e g = let z : _≡_ {A = ℕ} 0 1 = cc in let y : ⊥ = omega arith in absurd y
-
--- and that reading's records are the text's
-was-parsed : (b : Lent) (text : List ℕ) (r : Read) → read true b text ≡ fine r → parsed true text ≡ fine (r .parsed)
-unfolding read readOf
-was-parsed b text r h =
-    let one = chain (allowed b text) _ r h in
-    let two = chain (parsed true text) readOf r (one .second) in
-    let three = chain (build (two .value .form) (two .value .records)) _ r (two .second) in
-    let same : two .value ≡ r .parsed = ap (λ (o : Outcome Read). elim o [ fine x ↦ x .parsed | refused n p ↦ two .value ]) (three .second) in
-    two .first ∙ ap {B = Outcome Parsed} fine same
 
 -- a verdict that is not finished tells where the reading stopped
 not-finished : (t : Bool) (place : ℕ) → (pick t finished (stopped place) ≡ finished → ⊥) → pick t finished (stopped place) ≡ stopped place
@@ -95,7 +85,7 @@ a-cut-leaves-the-rows-inside-it text old c v new m n l old₂ answer₂ new₂ s
     let k = a-cut-gives-the-records-inside-it (lengths old₂) text n (w .whole) l is-fine in
     record {
       whole = w .whole .parsed;
-      of-the-text = was-parsed (lengths old) text (w .whole) (w .is-fine);
+      of-the-text = what-was-read true (lengths old) text (w .whole) (w .is-fine) .parses;
       before = λ h. cut-refused text n old₂ answer₂ new₂ m₂ (k .before h);
       from-there = λ h. cut-held text n old₂ answer₂ new₂ m₂ (w .whole) (k .from-there h);
     }

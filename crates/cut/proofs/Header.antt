@@ -1,6 +1,6 @@
 -- The header of a cut text: the same where its line is whole inside the cut, else refusal 4.
 use Prim.Native.Nat.{ℕ, zero, suc, _+_, _-_, _≤_, _<_}
-use mathlib.Core.Path.{_≡_, refl, ap, _∙_}
+use mathlib.Core.Path.{_≡_, refl, ap, sym}
 use mathlib.Core.List.{List, [], _∷_}
 use mathlib.Core.Option.{Option, none, some}
 use mathlib.Core.Bool.{Bool, true, false, _&&_}
@@ -8,19 +8,16 @@ use mathlib.Core.Logic.{_⊎_, inl, inr}
 use native.Mathlib.Omega.{arith}
 use native.Mathlib.Nat.{zero-add}
 use lib.ListN.{length, take, drop}
-use lib.Seq.{take-nil}
+use lib.Seq.{take-take}
 use lib.Dec.{eqb}
 use Rattle.format.specs.Lists.{pick, run}
 use Rattle.format.specs.Bytes.{isBlank, isWhite}
 use Rattle.format.specs.Header.{Head, letters, isForm, formOf, later, header}
 use Rattle.format.specs.Lines.{endLength}
+use Rattle.laws.proofs.Headers.{Begins, same-header}
+pub use Rattle.laws.proofs.Headers.{differ}
 
 -- the length of a line end is 1 or 2, and it stands whole inside a cut or not at all
-end-cut1 : (t u : Bool) (e : ℕ) → pick t 1 (pick u 2 0) ≡ suc e → suc e ≤ 1 → pick t 1 0 ≡ suc e
-end-cut1 true u e h l = h
-end-cut1 false true e h l = let z : ⊥ = omega (arith, h) in absurd z
-end-cut1 false false e h l = h
-
 end-cut0 : (t u : Bool) (e : ℕ) → pick t 1 (pick u 2 0) ≡ suc e → 1 < suc e → pick {A = ℕ} t 1 0 ≡ 0
 end-cut0 true u e h l = let z : ⊥ = omega (arith, h) in absurd z
 end-cut0 false u e h l = refl
@@ -29,14 +26,6 @@ end-le : (t u : Bool) → pick t 1 (pick u 2 0) ≤ 2
 end-le true u = omega arith
 end-le false true = omega arith
 end-le false false = omega arith
-
-end-in : (xs : List ℕ) (m e : ℕ) → endLength xs ≡ suc e → suc e ≤ m → endLength (take m xs) ≡ suc e
-unfolding endLength
-end-in xs zero e h l = let z : ⊥ = omega arith in absurd z
-end-in [] (suc m) e h l = h
-end-in (a ∷ []) (suc m) e h l = ap (λ (z : List ℕ). endLength (a ∷ z)) (take-nil m) ∙ h
-end-in (a ∷ b ∷ r) (suc zero) e h l = end-cut1 (eqb a 10) (eqb a 13 && eqb b 10) e h l
-end-in (a ∷ b ∷ r) (suc (suc m)) e h l = h
 
 end-one-le : (t : Bool) (e m : ℕ) → pick t 1 0 ≡ suc e → suc m < suc e → ⊥
 end-one-le true e m h l = omega (arith, h)
@@ -53,24 +42,6 @@ end-out (a ∷ b ∷ r) (suc (suc m)) e h l = let z : ⊥ = omega (arith, end-le
 -- how many blanks stand first
 blanksOf : List ℕ → ℕ
 blanksOf xs = length (run isBlank xs)
-
--- blanks and a line end behind them
-TailIn : List ℕ → ℕ → ℕ → Type 0
-TailIn xs m e = endLength (drop (blanksOf xs) xs) ≡ suc e → blanksOf xs + suc e ≤ m
-    → (blanksOf (take m xs) ≡ blanksOf xs) × (endLength (drop (blanksOf xs) (take m xs)) ≡ suc e)
-
-tail-in-step : (b : ℕ) (bs : List ℕ) (m e : ℕ) (t : Bool) → TailIn bs m e
-    → endLength (drop (length (pick t (b ∷ run isBlank bs) [])) (b ∷ bs)) ≡ suc e → length (pick t (b ∷ run isBlank bs) []) + suc e ≤ suc m
-    → (length (pick t (b ∷ run isBlank (take m bs)) []) ≡ length (pick t (b ∷ run isBlank bs) [])) × (endLength (drop (length (pick t (b ∷ run isBlank bs) [])) (b ∷ take m bs)) ≡ suc e)
-unfolding TailIn blanksOf
-tail-in-step b bs m e true ih h l = let k = ih h (omega arith) in (ap suc (k .0), k .1)
-tail-in-step b bs m e false ih h l = (refl, end-in (b ∷ bs) (suc m) e h (rw zero-add at l))
-
-tail-in : (xs : List ℕ) (m e : ℕ) → TailIn xs m e
-unfolding TailIn blanksOf run
-tail-in xs zero e h l = let z : ⊥ = omega arith in absurd z
-tail-in [] (suc m) e h l = (refl, h)
-tail-in (b ∷ bs) (suc m) e h l = tail-in-step b bs m e (isBlank b) (tail-in bs m e) h l
 
 TailOut : List ℕ → ℕ → ℕ → Type 0
 TailOut xs m e = endLength (drop (blanksOf xs) xs) ≡ suc e → m < blanksOf xs + suc e → endLength (drop (blanksOf (take m xs)) (take m xs)) ≡ 0
@@ -89,45 +60,21 @@ tail-out [] (suc m) e h l = refl
 tail-out (b ∷ bs) (suc m) e h l = tail-out-step b bs m e (isBlank b) (tail-out bs m e) h l
 
 -- the header's line is whole inside the cut
-pub record Kept (h : Head) (e n : ℕ) (text : List ℕ) : Type 0 where
-  pub head : header (take n text) ≡ some h
-  pub end : endLength (drop (h .next) (take n text)) ≡ suc e
+pub head-in : (text : List ℕ) (n e : ℕ) (h : Head) → Begins text h e → h .next + suc e ≤ n → Begins (take n text) h e
+head-in text n e h b l = same-header n e text (take n text) (sym (take-take n n text (omega arith))) h b l
 
 -- or it is not
 pub data Lost (text : List ℕ) : Type 0 where
   gone : header text ≡ none → Lost text
   open-ended : (h : Head) → header text ≡ some h → endLength (drop (h .next) text) ≡ 0 → Lost text
 
-abbrev pub HeadIn : List ℕ → ℕ → ℕ → Type 0
-HeadIn text n e = (h : Head) → header text ≡ some h → endLength (drop (h .next) text) ≡ suc e → h .next + suc e ≤ n → Kept h e n text
-
 abbrev pub HeadOut : List ℕ → ℕ → ℕ → Type 0
 HeadOut text n e = (h : Head) → header text ≡ some h → endLength (drop (h .next) text) ≡ suc e → n < h .next + suc e → Lost (take n text)
-
-pub differ : {A : Type 0} {h : Head} → none ≡ some h → A
-differ q = let z : _≡_ {A = ℕ} 0 1 = cc in let y : ⊥ = omega arith in absurd y
 
 -- the letters
 module _ (a b c : ℕ) (rest : List ℕ) (e : ℕ) where
   headOf : ℕ → Head
   headOf k = record { form = formOf a b c; next = suc (suc (suc k)) }
-
-  LettersIn : ℕ → Head → Type 0
-  LettersIn n h = endLength (drop (h .next) (a ∷ b ∷ c ∷ rest)) ≡ suc e → h .next + suc e ≤ n
-      → (letters (take n (a ∷ b ∷ c ∷ rest)) ≡ some h) × (endLength (drop (h .next) (take n (a ∷ b ∷ c ∷ rest))) ≡ suc e)
-
-  letters-in-head : (n : ℕ) → isForm a b c ≡ true → LettersIn n (headOf (blanksOf rest))
-  unfolding LettersIn headOf letters blanksOf TailIn
-  letters-in-head zero p q l = let z : ⊥ = omega arith in absurd z
-  letters-in-head (suc zero) p q l = let z : ⊥ = omega arith in absurd z
-  letters-in-head (suc (suc zero)) p q l = let z : ⊥ = omega arith in absurd z
-  letters-in-head (suc (suc (suc m))) p q l =
-      let k = tail-in rest m e q (omega arith) in
-      (rw (p, k .0), k .1)
-
-  letters-in : (n : ℕ) (t : Bool) → isForm a b c ≡ t → (h : Head) → pick t (some (headOf (blanksOf rest))) none ≡ some h → LettersIn n h
-  letters-in n true p h q = let same : headOf (blanksOf rest) ≡ h = cc in rw same at (letters-in-head n p)
-  letters-in n false p h q = differ q
 
   LettersOut : ℕ → Head → Type 0
   LettersOut n h = endLength (drop (h .next) (a ∷ b ∷ c ∷ rest)) ≡ suc e → n < h .next + suc e
@@ -144,17 +91,6 @@ module _ (a b c : ℕ) (rest : List ℕ) (e : ℕ) where
   letters-out n true p h q = let same : headOf (blanksOf rest) ≡ h = cc in rw same at (letters-out-head n p)
   letters-out n false p h q = differ q
 
--- behind one more white byte
-white-in : (b : ℕ) (bs : List ℕ) (n e : ℕ) → isWhite b ≡ true → HeadIn bs n e → (o : Option Head) → header bs ≡ o → (h : Head) → later o ≡ some h
-    → endLength (drop (h .next) (b ∷ bs)) ≡ suc e → h .next + suc e ≤ suc n → Kept h e (suc n) (b ∷ bs)
-unfolding header later
-white-in b bs n e p ih none q h r s l = differ r
-white-in b bs n e p ih (some g) q h r s l =
-    let same : record { form = g .form; next = suc (g .next) } ≡ h = cc in
-    let sameNext : suc (g .next) ≡ h .next = ap (λ (x : Head). x .next) same in
-    let k = ih g q (rw (← sameNext) at s) (omega arith) in
-    record { head = rw (p, k .head) r; end = rw (← sameNext) (k .end) }
-
 later-lost : (b : ℕ) (bs : List ℕ) → isWhite b ≡ true → Lost bs → Lost (b ∷ bs)
 unfolding header later
 later-lost b bs p (gone q) = gone (rw (p, q))
@@ -169,16 +105,6 @@ white-out b bs n e p ih (some g) q h r s l =
     let sameNext : suc (g .next) ≡ h .next = ap (λ (x : Head). x .next) same in
     later-lost b (take n bs) p (ih g q (rw (← sameNext) at s) (omega arith))
 
--- a byte that is not white begins the letters
-letters-kept : (b : ℕ) (bs : List ℕ) (n e : ℕ) → isWhite b ≡ false → (h : Head) → letters (b ∷ bs) ≡ some h
-    → endLength (drop (h .next) (b ∷ bs)) ≡ suc e → h .next + suc e ≤ suc n → Kept h e (suc n) (b ∷ bs)
-unfolding letters header LettersIn headOf blanksOf
-letters-kept b [] n e p h q s l = differ q
-letters-kept b (c ∷ []) n e p h q s l = differ q
-letters-kept b (c ∷ d ∷ rest) n e p h q s l =
-    let k = letters-in b c d rest e (suc n) (isForm b c d) refl h q s l in
-    record { head = rw p (k .0); end = k .1 }
-
 either-lost : (b : ℕ) (bs : List ℕ) → isWhite b ≡ false
     → (letters (b ∷ bs) ≡ none) ⊎ ((h : Head) × (letters (b ∷ bs) ≡ some h) × (endLength (drop (h .next) (b ∷ bs)) ≡ 0)) → Lost (b ∷ bs)
 unfolding header
@@ -192,17 +118,6 @@ letters-lost b [] n e p h q s l = differ q
 letters-lost b (c ∷ []) n e p h q s l = differ q
 letters-lost b (c ∷ d ∷ rest) n e p h q s l =
     either-lost b (take n (c ∷ d ∷ rest)) p (letters-out b c d rest e (suc n) (isForm b c d) refl h q s l)
-
-head-in-step : (b : ℕ) (bs : List ℕ) (n e : ℕ) (t : Bool) → isWhite b ≡ t → HeadIn bs n e → HeadIn (b ∷ bs) (suc n) e
-unfolding header
-head-in-step b bs n e true p ih h q s l = white-in b bs n e p ih (header bs) refl h (rw p at q) s l
-head-in-step b bs n e false p ih h q s l = letters-kept b bs n e p h (rw p at q) s l
-
-pub head-in : (text : List ℕ) (n e : ℕ) → HeadIn text n e
-unfolding header
-head-in text zero e h q s l = let z : ⊥ = omega arith in absurd z
-head-in [] (suc n) e h q s l = differ q
-head-in (b ∷ bs) (suc n) e h q s l = head-in-step b bs n e (isWhite b) refl (head-in bs n e) h q s l
 
 head-out-step : (b : ℕ) (bs : List ℕ) (n e : ℕ) (t : Bool) → isWhite b ≡ t → HeadOut bs n e → HeadOut (b ∷ bs) (suc n) e
 unfolding header

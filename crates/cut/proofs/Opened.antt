@@ -13,7 +13,7 @@ use lib.Dec.{leb}
 use borrow.Author.Tests.{leb-true, le-leb}
 use Rattle.format.specs.Lists.{pick}
 use Rattle.format.specs.Header.{Head, header}
-use Rattle.format.specs.Lines.{endLength, lines, linesOf}
+use Rattle.format.specs.Lines.{lines}
 use Rattle.format.specs.Outcome.{fine, refused}
 use Rattle.format.specs.Records.{Records, records, Parsed, parsedAt, parsedFrom, parsed}
 use Rattle.format.specs.Reading.{Lent, lentRoom, firstHigh, noHigh, allowed}
@@ -22,6 +22,8 @@ use Rattle.cut.specs.Cut.{cutRecords}
 use Rattle.cut.proofs.Records.{records-cut}
 use Rattle.cut.proofs.Header.{Lost, gone, open-ended}
 use Rattle.laws.proofs.Outcomes.{passed, unlike}
+unfoldable pub use Rattle.laws.proofs.Opened.{opened}
+pub use Rattle.laws.proofs.Opened.{Opened, opens, parsed-at}
 
 high-step : (b at : ℕ) (rest rest′ : Option ℕ) (t : Bool) → (rest ≡ none → rest′ ≡ none) → pick t (some at) rest ≡ none → pick t (some at) rest′ ≡ none
 high-step b at rest rest′ true ih h = h
@@ -45,43 +47,10 @@ allowed-take b text n k h =
     let short : leb (length (take n text)) 65536 ≡ true = le-leb (length (take n text)) 65536 (simp length-take (omega (arith, leb-true (length text) 65536 (two .0)))) in
     rw (one .0, short, high-take text n 0 (no-high (firstHigh 0 text) k (two .1)))
 
-unfoldable pub opened : Head → ℕ → List ℕ → Parsed
-opened h e text = record {
-  form = h .form;
-  head = h .next + suc e;
-  records = records true (h .form) (h .next + suc e) (lines (drop (h .next + suc e) text));
-}
-
-pub parsed-at : (h : Head) (e : ℕ) (text : List ℕ) → header text ≡ some h → endLength (drop (h .next) text) ≡ suc e → parsed true text ≡ fine (opened h e text)
-unfolding parsed parsedFrom parsedAt opened linesOf
-parsed-at h e text p q = rw (p, q)
-
 pub lost-parsed : (text : List ℕ) → Lost text → parsed true text ≡ refused 4 0
 unfolding parsed parsedFrom parsedAt
 lost-parsed text (gone p) = rw p
 lost-parsed text (open-ended h p q) = rw (p, q)
-
--- what a parsed text has
-pub record Opened (text : List ℕ) (p : Parsed) : Type 0 where
-  pub h : Head
-  pub e : ℕ
-  pub is-head : header text ≡ some h
-  pub is-end : endLength (drop (h .next) text) ≡ suc e
-  pub same : opened h e text ≡ p
-
-pub opens : (text : List ℕ) (p : Parsed) → parsed true text ≡ fine p → Opened text p
-unfolding parsed parsedFrom parsedAt
-opens text p q = go (header text) refl q
-  where
-    ends-at : (h : Head) → header text ≡ some h → (e : ℕ) → endLength (drop (h .next) text) ≡ e → parsedAt true (h .form) (h .next) e text ≡ fine p → Opened text p
-    ends-at h r zero s u = unlike 4 0 p u
-    ends-at h r (suc e) s u =
-        let both : fine (opened h e text) ≡ fine p = sym (parsed-at h e text r s) ∙ q in
-        record { h = h; e = e; is-head = r; is-end = s; same = cc }
-
-    go : (o : Option Head) → header text ≡ o → parsedFrom true o text ≡ fine p → Opened text p
-    go none r u = unlike 4 0 p u
-    go (some h) r u = ends-at h r (endLength (drop (h .next) text)) refl u
 
 drop-take : (k m : ℕ) (xs : List ℕ) → drop k (take (k + m) xs) ≡ take m (drop k xs)
 drop-take zero m xs = rw zero-add

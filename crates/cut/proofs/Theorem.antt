@@ -33,7 +33,7 @@ module _ (b : Lent) (text : List ℕ) (n : ℕ) (inText : n ≤ length text) (h 
   cut-from : h .next + suc e ≤ n → CutRead b text n (record { parsed = opened h e text; built = built })
   unfolding read readOf opened cutParsed ends cutRecords
   cut-from l =
-      let kept = head-in text n e h is-head is-end l in
+      let kept = head-in text n e h (record { head = is-head; end = is-end }) l in
       let at : ℕ = h .next + suc e in
       let asc : Asc at (ends (opened h e text .records)) = asc-records (h .form) at (lines (drop at text)) in
       let f = build-cut (h .form) n at (opened h e text .records) built asc is-built in

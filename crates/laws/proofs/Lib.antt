@@ -1,5 +1,9 @@
 pub mod Outcomes
+pub mod Ones
 pub mod Lines
+pub mod Headers
+pub mod Opened
+pub mod WasRead
 pub mod Within
 pub mod Places
 pub mod Placing
@@ -7,5 +11,4 @@ pub mod Room
 pub mod Unique
 pub mod Fill
 pub mod Parts
-pub mod Ones
 pub mod Areas

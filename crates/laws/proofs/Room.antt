@@ -1,8 +1,8 @@
 -- What is written has room: the rows of an accepted text are no longer than the buffers that were lent. So a contract that says what each
 -- buffer holds afterwards can be met.
 use Prim.Native.Nat.{ℕ, zero, suc, _+_, _-_, _*_, _≤_}
-use mathlib.Core.Path.{_≡_, refl, sym, subst}
-use mathlib.Core.List.{List, [], _∷_, _++_}
+use mathlib.Core.Path.{_≡_, refl, sym, ap, subst, _∙_}
+use mathlib.Core.List.{List, [], _∷_, _++_, append-assoc}
 use mathlib.Core.Option.{Option, none, some}
 use mathlib.Core.Bool.{Bool, true, false, _&&_, false≢true}
 use native.Mathlib.Omega.{arith}
@@ -23,6 +23,7 @@ use Rattle.format.specs.Placing.{State, Walk, passedOver, write, walk, placeAt,
 use Rattle.format.specs.WorkLine.{inLine}
 use Rattle.format.specs.Reading.{build, Lent, lentRoom, allowed, Read, readOf, read, Reading, fixupsOf, readingOf, reading}
 use Rattle.format.specs.Rows.{areaNumbers, symbolNumbers, fixupNumbers}
+use Rattle.laws.proofs.Ones.{one-at-most}
 use Rattle.laws.proofs.Outcomes.{chain, passed}
 
 -- what every step keeps holds in the end
@@ -176,14 +177,10 @@ unfolding byArea
 by-area zero id xs = omega arith
 by-area (suc n) id xs = simp length-append (omega (arith, by-area n (suc id) xs, of-area id xs))
 
-one-le : (t : Bool) → pick t 1 0 ≤ 1
-one-le true = omega arith
-one-le false = omega arith
-
 before-le : (id : ℕ) (xs : List Fixup) → before id xs ≤ length xs
 unfolding before
 before-le id [] = omega arith
-before-le id (x ∷ xs) = omega (arith, one-le (leb id (x .home)), before-le id xs)
+before-le id (x ∷ xs) = omega (arith, one-at-most (leb id (x .home)), before-le id xs)
 
 pub grouped-le : (n : ℕ) (xs : List Fixup) → length (byArea n 0 xs) ≤ length xs
 grouped-le n xs = omega (arith, by-area n 0 xs, before-le 0 xs)
@@ -193,6 +190,11 @@ pub flat-length : {A : Type 0} (g : A → List ℕ) (k : ℕ) → ((a : A) → l
 unfolding flat
 flat-length g k e [] = sym (zero-mul k)
 flat-length g k e (x ∷ xs) = simp (length-append, suc-mul) (omega (arith, e x, flat-length g k e xs))
+
+pub flat-append : {A : Type 0} (g : A → List ℕ) (xs ys : List A) → flat g (xs ++ ys) ≡ flat g xs ++ flat g ys
+unfolding flat
+flat-append g [] ys = refl
+flat-append g (x ∷ xs) ys = ap (λ (z : List ℕ). g x ++ z) (flat-append g xs ys) ∙ sym (append-assoc (g x) (flat g xs) (flat g ys))
 
 -- the rows have room in the buffers
 pub record HasRoom (b : Lent) (r : Reading) : Type 0 where

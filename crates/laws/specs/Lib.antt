@@ -2,3 +2,4 @@ pub mod Places
 pub mod Rows
 pub mod Tab
 pub mod Part
+pub mod PairRows

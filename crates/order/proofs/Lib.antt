@@ -1,0 +1,17 @@
+pub mod Cells
+pub mod Bytes
+pub mod WholeLines
+pub mod PairLines
+pub mod Placed
+pub mod Pair
+pub mod Lists
+pub mod Places
+pub mod Order
+pub mod TurnedLines
+pub mod Homes
+pub mod Grouped
+pub mod TurnedText
+pub mod Steps
+pub mod Areas
+pub mod Texts
+pub mod ExchangedText

@@ -1,0 +1,4 @@
+pub mod Writes
+pub mod Order
+pub mod Texts
+pub mod Example
