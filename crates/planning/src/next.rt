@@ -10,11 +10,11 @@ use crate::state::Turn;
 use crate::state::after;
 use crate::state::ending;
 use crate::state::stepped;
+use header::Form;
+use header::Width;
 use sites::Line;
 use steps::Body;
 use steps::PairStep;
-use header::Form;
-use header::Width;
 
 // How many bytes an address has.
 fn address_length(w: Width) -> usize

@@ -7,9 +7,9 @@ ghost use Rattle.way_in.specs.WayIn.{Rooms};
 ghost use Rattle.reading.specs.Laid.{Laid, wholeLines};
 use crate::Answer;
 use crate::images::rest;
+use header::Form;
 use tables::Listed;
 use tables::group_one;
-use header::Form;
 
 // Both groups from a place on, behind a header that ended at head.
 pub(crate) fn read_lines(

@@ -6,11 +6,11 @@ ghost use Rattle.mode.specs.Class.{classTable};
 ghost use Rattle.header.specs.Told.{formOf};
 ghost use Rattle.reading.specs.Onward.{Ready, Columns, GroupedTwo, onwardAt};
 use crate::turn::take_turn;
+use header::Form;
 use planning::Paired;
 use planning::Progress;
 use planning::Turn;
 use planning::two_of;
-use header::Form;
 
 // Turn after turn from a place on. The rows of areas and symbols are a and s, the images vs and fs.
 fn rounds(

@@ -11,6 +11,7 @@ use crate::answers::accept;
 use crate::answers::counts_of;
 use crate::answers::refuse_two;
 use crate::second::second_over;
+use header::Form;
 use layout::lay_images;
 use layout::lay_tables;
 use planning::Paired;
@@ -18,7 +19,6 @@ use planning::starting;
 use tables::Found;
 use tables::Sizes;
 use tables::sizes_of;
-use header::Form;
 
 // Over lent images of zeros. These and the rows are laid over the lent buffers once nothing is refused.
 fn over_images(

@@ -6,10 +6,10 @@ ghost use Rattle.header.specs.Told.{formOf};
 ghost use Rattle.reading.specs.Onward.{Ready};
 ghost use Rattle.reading.specs.Laid.{SecondIs};
 use crate::group_two::group_two;
+use header::Form;
 use planning::Paired;
 use planning::Progress;
 use planning::ending;
-use header::Form;
 
 // Group two, if there is one, over images of as many positions as there are.
 fn second(

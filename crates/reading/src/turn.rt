@@ -6,9 +6,8 @@ ghost use Rattle.mode.specs.Class.{classTable};
 ghost use Rattle.homes.specs.Home.{homeAt};
 ghost use Rattle.header.specs.Told.{formOf};
 ghost use Rattle.reading.specs.Onward.{standingOf, filledOf, Ready, PlaceReady, Columns, Advances, TurnIs, onwardAt};
+use header::Form;
 use homes::Home;
-use sites::Filled;
-use sites::Line;
 use place::Placed;
 use planning::Plan;
 use planning::Progress;
@@ -18,8 +17,9 @@ use planning::after;
 use planning::plan_of;
 use planning::standing_in;
 use planning::turn_of;
+use sites::Filled;
+use sites::Line;
 use steps::pair_step;
-use header::Form;
 
 // How placing stands after a pair.
 fn standing_of(r: Placed) -> Standing

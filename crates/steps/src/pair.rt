@@ -13,9 +13,9 @@ ghost use Rattle.steps.specs.declared.pair.PairLine.the-variants.{Pair};
 use crate::lines::line_at;
 use crate::lines::record_end;
 use crate::lines::whole;
+use header::Form;
 use pair_line::ContentLine;
 use pair_line::RelocationLine;
-use header::Form;
 
 // What a pair is. Its content stands in the lent bytes, its fragments in the lent columns.
 pub enum Body {

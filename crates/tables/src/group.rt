@@ -4,9 +4,9 @@ ghost use Rattle.header.specs.Told.{formOf};
 ghost use Rattle.tables.specs.GroupOne.{refusalOf, foundOf, Grouped};
 use crate::rows::Added;
 use crate::rows::add_entry;
+use header::Form;
 use steps::EntryStep;
 use steps::entry_step;
-use header::Form;
 
 // How many areas and symbols there are, where group two begins if there is more, and where the last record ended.
 pub struct Found {
