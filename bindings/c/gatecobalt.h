@@ -112,7 +112,7 @@ gatecobalt_heading gatecobalt_header(const uint8_t *text, size_t text_length);
 
 /* What the bytes of a fixup refer to where they stand at an address, as the old tool has it: mode and
  * number are the fixup's, big is the header's. It is wrong for ACALL, AJMP and relative jumps and
- * for negative numbers; only a comparison with the old tool should ask it. */
+ * for some negative numbers; only a comparison with the old tool should ask it. */
 gatecobalt_targeted gatecobalt_target(uint32_t mode, bool big, uint32_t number, uint64_t address,
     const uint8_t *bytes, size_t bytes_length);
 
