@@ -1,40 +1,21 @@
 // What C and Rust link: both readings, both targets of a fixup, and how much a caller has to lend,
 // over numbers and slices. Every function answers for every input; none asks anything of its caller.
-mod answers;
-mod readings;
-
 ghost use mathlib.Core.Path.{_≡_};
 ghost use mathlib.Core.Bool.{true, false};
 ghost use Rattle.format.specs.Header.{header};
 ghost use Rattle.format.specs.Target as the;
 ghost use Rattle.format.specs.Corrected.{corrected};
 ghost use Rattle.reading.specs.Answer.{held};
-ghost use Rattle.exports.specs.Numbers.{Answers, headerNumbers, rooms, targetNumbers, widths};
-pub use answers::HeaderNumbers;
-pub use answers::TargetNumbers;
-use answers::header_numbers;
-use answers::target_numbers;
-pub use readings::ReadNumbers;
-use readings::read_numbers;
-
-// Numbers in a row of each table.
-#[repr(C)]
-pub struct Widths {
-    pub area: usize,
-    pub symbol: usize,
-    pub fixup: usize,
-}
-
-// The longest text, and how many elements each lent buffer has to have room for.
-#[repr(C)]
-pub struct Rooms {
-    pub text: usize,
-    pub areas: usize,
-    pub symbols: usize,
-    pub values: usize,
-    pub masks: usize,
-    pub fixups: usize,
-}
+ghost use Rattle.answer_numbers.specs.Numbers.{headerNumbers, rooms, targetNumbers, widths};
+ghost use Rattle.exports.specs.Answers.{Answers};
+use answer_numbers::HeaderNumbers;
+use answer_numbers::Rooms;
+use answer_numbers::TargetNumbers;
+use answer_numbers::Widths;
+use answer_numbers::header_numbers;
+use answer_numbers::target_numbers;
+use reading_numbers::ReadNumbers;
+use reading_numbers::read_numbers;
 
 // The plain reading of a text into five lent buffers.
 #[no_mangle]
@@ -107,11 +88,7 @@ pub extern "C" fn gatecobalt_corrected_target(
 pub extern "C" fn gatecobalt_widths() -> Widths
     ensures { λ r. ⌜ r ≡ widths ⌝ }
 {
-    Widths {
-        area: 6,
-        symbol: 5,
-        fixup: 9,
-    }
+    answer_numbers::row_widths()
 }
 
 // The longest text, and the room that each lent buffer has to have, in elements.
@@ -119,12 +96,5 @@ pub extern "C" fn gatecobalt_widths() -> Widths
 pub extern "C" fn gatecobalt_rooms() -> Rooms
     ensures { λ r. ⌜ r ≡ rooms ⌝ }
 {
-    Rooms {
-        text: 65536,
-        areas: 384,
-        symbols: 5120,
-        values: 65536,
-        masks: 65536,
-        fixups: 9216,
-    }
+    answer_numbers::lent_rooms()
 }

@@ -1,6 +1,6 @@
-use Rattle.exports.proofs.Laws.{numbers}
-use Rattle.exports.proofs.answers.header_numbers.Statement.{statement}
-use Rattle.exports.proofs.answers.header_numbers.Tie as tie
+use Rattle.answer_numbers.proofs.Laws.{numbers}
+use Rattle.answer_numbers.proofs.answers.header_numbers.Statement.{statement}
+use Rattle.answer_numbers.proofs.answers.header_numbers.Tie as tie
 
 enum-known-head : tie.Need-enum-known-head
 enum-known-head c = search numbers

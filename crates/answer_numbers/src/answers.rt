@@ -4,7 +4,7 @@ ghost use Rattle.target.specs.Target as targets;
 ghost use Rattle.header.specs.Told.{toldHead, moreOf};
 ghost use Rattle.format.specs.Rows.{flag};
 ghost use Prim.Native.Nat.{suc};
-ghost use Rattle.exports.specs.Numbers.{headerNumbers, targetNumbers};
+ghost use Rattle.answer_numbers.specs.Numbers.{headerNumbers, targetNumbers};
 use header::Head;
 use header::Width;
 
@@ -25,7 +25,7 @@ pub struct TargetNumbers {
 }
 
 // The numbers of a target's answer.
-pub(crate) fn target_numbers(answer: target::Answer) -> TargetNumbers
+pub fn target_numbers(answer: target::Answer) -> TargetNumbers
     ensures { λ r. ⌜ r ≡ targetNumbers (targets.told answer) ⌝ }
 {
     match answer {
@@ -65,7 +65,7 @@ fn address_length(width: Width) -> u32
 }
 
 // The numbers of a header, if there is one.
-pub(crate) fn header_numbers(head: Head) -> HeaderNumbers
+pub fn header_numbers(head: Head) -> HeaderNumbers
     ensures { λ r. ⌜ r ≡ headerNumbers (toldHead head) ⌝ }
 {
     let Head::Found { form, next: _ } = head else {

@@ -1,6 +1,6 @@
-use Rattle.exports.proofs.Laws.{numbers}
-use Rattle.exports.proofs.readings.accepted.Statement.{statement}
-use Rattle.exports.proofs.readings.accepted.Tie as tie
+use Rattle.reading_numbers.proofs.Laws.{numbers}
+use Rattle.reading_numbers.proofs.accepted.Statement.{statement}
+use Rattle.reading_numbers.proofs.accepted.Tie as tie
 
 enum-told : tie.Need-enum-told
 enum-told c = search numbers

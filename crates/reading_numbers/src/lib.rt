@@ -1,7 +1,7 @@
 // A reading's answer as numbers: an enum cannot cross over to C.
 ghost use mathlib.Core.Path.{_≡_};
 ghost use Rattle.reading.specs.Answer as reads;
-ghost use Rattle.exports.specs.Numbers.{acceptedNumbers, countedNumbers, readNumbers, refusedNumbers};
+ghost use Rattle.reading_numbers.specs.Numbers.{acceptedNumbers, countedNumbers, readNumbers, refusedNumbers};
 use reading::Counts;
 use reading::Verdict;
 
@@ -65,7 +65,7 @@ fn refused(number: u32, place: usize) -> ReadNumbers
 }
 
 // The numbers of a reading's answer.
-pub(crate) fn read_numbers(answer: reading::Answer) -> ReadNumbers
+pub fn read_numbers(answer: reading::Answer) -> ReadNumbers
     ensures { λ r. ⌜ r ≡ readNumbers (reads.told answer) ⌝ }
 {
     match answer {

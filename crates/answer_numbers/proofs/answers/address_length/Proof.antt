@@ -1,6 +1,6 @@
-use Rattle.exports.proofs.Laws.{numbers}
-use Rattle.exports.proofs.answers.address_length.Statement.{statement}
-use Rattle.exports.proofs.answers.address_length.Tie as tie
+use Rattle.answer_numbers.proofs.Laws.{numbers}
+use Rattle.answer_numbers.proofs.answers.address_length.Statement.{statement}
+use Rattle.answer_numbers.proofs.answers.address_length.Tie as tie
 
 enum-told : tie.Need-enum-told
 enum-told c = search numbers
