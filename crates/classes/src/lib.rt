@@ -1,9 +1,9 @@
 // Classes of modes by their bits, what a mode gives and leaves on site, and whether a lent table has the classes of some modes.
 use cells::at;
 use cells::byte_at;
+use class_rows::get_onsite_size;
+use class_rows::gives;
 use mode::JumpType;
-use mode::get_onsite_size;
-use mode::gives;
 ghost use mathlib.Core.Path.{_≡_};
 ghost use Prim.Native.Nat.{_%_};
 ghost use lib.Dec.{eqb};

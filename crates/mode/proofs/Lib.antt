@@ -1,5 +1,2 @@
 pub mod ClassLaws
-pub mod RowLaws
-pub mod JoinLaws
-pub mod StepLaws
 pub mod Unique

@@ -22,9 +22,9 @@ use Rattle.format.specs.WorkLine.{padded, beyond, stepAt, partly}
 use Rattle.format.specs.WorkLine as defs
 use Rattle.laws.specs.Rows.{from}
 use Rattle.laws.proofs.Parts.{part-end, put-end}
-use Rattle.mode.specs.declared.step.Step.{Step}
-use Rattle.mode.specs.declared.step.Step.the-variants.{Number, Short}
-use Rattle.mode.specs.Step as modes
+use Rattle.mode_step.specs.declared.step.Step.{Step}
+use Rattle.mode_step.specs.declared.step.Step.the-variants.{Number, Short}
+use Rattle.mode_step.specs.Step as modes
 use Rattle.mode.specs.Class.{classNamed}
 use Rattle.sites.specs.declared.Line.{Line}
 use Rattle.place.specs.declared.work_line.Worked.{Worked}

@@ -14,8 +14,8 @@ use Rattle.format.specs.Mode.{Class}
 use Rattle.format.specs.ModeStep.{numberBy, valuesBy, masksBy, keepsBy}
 use Rattle.format.specs.WorkLine.{beyond, stepAt, partly}
 use Rattle.format.specs.WorkLine as defs
-use Rattle.mode.specs.declared.step.Step.{Step}
-use Rattle.mode.specs.Step.{toldStep}
+use Rattle.mode_step.specs.declared.step.Step.{Step}
+use Rattle.mode_step.specs.Step.{toldStep}
 use Rattle.sites.specs.declared.Line.{Line}
 use Rattle.place.specs.declared.work_line.Worked.{Worked}
 use Rattle.place.specs.declared.work_line.Worked.the-variants.{Beyond, Numbers}

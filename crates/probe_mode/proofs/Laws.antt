@@ -18,10 +18,10 @@ use Rattle.laws.proofs.Fill.{over-step}
 use Rattle.mode.specs.declared.class.Jump.{Jump}
 use Rattle.mode.specs.declared.class.Jump.the-variants.{Of, Over}
 use Rattle.mode.specs.declared.class.JumpType.{JumpType}
-use Rattle.mode.specs.declared.step.Step.{Step}
-use Rattle.mode.specs.declared.step.Step.the-variants.{Number, Short}
+use Rattle.mode_step.specs.declared.step.Step.{Step}
+use Rattle.mode_step.specs.declared.step.Step.the-variants.{Number, Short}
 use Rattle.mode.specs.Class.{classNamed, classTable, jumpOf, toldClass, toldJump}
-use Rattle.mode.specs.Step.{Modified, toldStep}
+use Rattle.mode_step.specs.Step.{Modified, toldStep}
 use Rattle.target.specs.declared.answer.Answer.{Answer}
 use Rattle.target.specs.declared.answer.Answer.the-variants.{At, Refused}
 use Rattle.target.specs.Target.{targetBy, told}

@@ -13,7 +13,7 @@ use Rattle.format.specs.Outcome.{Outcome, fine, refused}
 use Rattle.format.specs.Target.{target}
 use Rattle.laws.specs.Tab.{over}
 use Rattle.mode.specs.Class.{classTable}
-use Rattle.mode.specs.Step.{fits}
+use Rattle.mode_step.specs.Step.{fits}
 use Rattle.probe_mode.specs.declared.steps.StepAnswer.{StepAnswer}
 use Rattle.probe_mode.specs.declared.targets.TargetAnswer.{TargetAnswer}
 

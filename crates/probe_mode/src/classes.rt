@@ -40,7 +40,7 @@ pub extern "C" fn probe_size(mode: u16) -> usize
 {
     let jump = mode::get_jump_type(mode);
     match jump {
-        Jump::Of(class) => mode::get_onsite_size(class),
+        Jump::Of(class) => class_rows::get_onsite_size(class),
         Jump::Over => 0,
     }
 }

@@ -1,11 +1,11 @@
 // The mode step, with the class out of a lent table of class numbers.
-use mode::Step;
+use mode_step::Step;
 ghost use mathlib.Core.Path.{_≡_};
 ghost use Prim.Native.Nat.{_%_};
 ghost use lib.ListN.{getD};
 ghost use Rattle.format.specs.Mode.{bit};
 ghost use Rattle.mode.specs.Class.{classNamed};
-ghost use Rattle.mode.specs.Step.{toldStep};
+ghost use Rattle.mode_step.specs.Step.{toldStep};
 ghost use Rattle.probe_mode.specs.Probe.{Probed, stepAnswer};
 
 // 1 and the number that a step made, or 0 and 0 where a part was too short.
@@ -39,6 +39,6 @@ pub extern "C" fn probe_step(
 {
     let class = mode::class_in(table, mode);
     let three = mode / 256 % 2 == 1;
-    let step = mode::modify_cmf_to_fixup(class, three, big, values, masks, kept);
+    let step = mode_step::modify_cmf_to_fixup(class, three, big, values, masks, kept);
     step_answer(step)
 }

@@ -6,7 +6,7 @@ use crate::hex::number;
 use crate::hex::short;
 use mode::Jump;
 use mode::JumpType;
-use mode::Step;
+use mode_step::Step;
 use target::Answer;
 ghost use Prim.Native.Nat.{_≤_};
 
@@ -43,7 +43,7 @@ fn class_line(line: &[u8]) -> u64
     let Jump::Of(class) = mode::get_jump_type(mode) else {
         return 1;
     };
-    let size = mode::get_onsite_size(class) as u64;
+    let size = class_rows::get_onsite_size(class) as u64;
     unless(class_number(class) == number(line, 6, 1) && size == number(line, 8, 1))
 }
 
@@ -59,15 +59,22 @@ fn step_line(line: &[u8]) -> u64
     let mut values = four(line, 8);
     let mut masks = four(line, 17);
     let mut kept = four(line, 26);
-    let step = mode::modify_cmf_to_fixup(class, three, big, &mut values, &mut masks, &mut kept);
+    let step = mode_step::modify_cmf_to_fixup(
+        class,
+        three,
+        big,
+        &mut values,
+        &mut masks,
+        &mut kept,
+    );
     let Step::Number(made) = step else {
         return 1;
     };
     unless(
         made == short(line, 35, 6)
-            && mode::endian_to_number(true, &values, 4) == short(line, 42, 8)
-            && mode::endian_to_number(true, &masks, 4) == short(line, 51, 8)
-            && mode::endian_to_number(true, &kept, 4) == short(line, 60, 8),
+            && joining::endian_to_number(true, &values, 4) == short(line, 42, 8)
+            && joining::endian_to_number(true, &masks, 4) == short(line, 51, 8)
+            && joining::endian_to_number(true, &kept, 4) == short(line, 60, 8),
     )
 }
 

@@ -10,9 +10,9 @@ use borrow.Author.Needs.{needs}
 use Rattle.format.specs.Mode.{Addr11, Addr16, Addr19, Addr24, Byte, Class, Other, bit, onSite, sizeOf}
 use Rattle.format.specs.Outcome.{Outcome, fine, refused}
 use Rattle.format.specs.Target.{closing, high, near, numberBit, signedNumber, signedStart, startOf, target, targetOf, wrapSub}
-use Rattle.mode.specs.declared.row.Row.{Row}
+use Rattle.class_rows.specs.declared.row.Row.{Row}
 use Rattle.mode.specs.Class.{classNamed, classTable}
-use Rattle.mode.specs.Row.{rowOf}
+use Rattle.class_rows.specs.Row.{rowOf}
 use Rattle.mode.proofs.ClassLaws.{table-names}
 use Rattle.target.specs.Target.{allowed, reachedBy, relativeOf, startBy, targetBy}
 use Rattle.target.proofs.AskedLaws.{bytes-there}

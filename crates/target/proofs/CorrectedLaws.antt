@@ -17,9 +17,9 @@ use Rattle.format.specs.Target.{closing, inBlock, near, numberBit, signedStart,
 use Rattle.format.specs.Corrected.{corrected, correctedBlock, correctedHigh, correctedOf, correctedStart, one-or-two-behind}
 use Rattle.mode.specs.declared.class.JumpType.{JumpType}
 use Rattle.mode.specs.declared.class.JumpType.the-variants.{Addr11, Addr16, Addr19, Addr24, Byte, Other}
-use Rattle.mode.specs.declared.row.Row.{Row}
+use Rattle.class_rows.specs.declared.row.Row.{Row}
 use Rattle.mode.specs.Class.{toldClass}
-use Rattle.mode.specs.Row.{rowOf}
+use Rattle.class_rows.specs.Row.{rowOf}
 use Rattle.mode.proofs.class.JumpType.{the-type}
 use Rattle.target.specs.Target.{allowed, startBy}
 use Rattle.target.specs.Corrected.{aheadOf, leadsTo}

@@ -22,9 +22,9 @@ use Rattle.format.specs.Target.{block, inBlock, near, numberBit, signedNumber, 
 use Rattle.laws.proofs.Parts.{part-end}
 use Rattle.mode.specs.declared.class.JumpType.{JumpType}
 use Rattle.mode.specs.declared.class.JumpType.the-variants.{Addr11, Addr16, Addr19, Addr24, Byte, Other}
-use Rattle.mode.specs.declared.row.Row.{Row}
+use Rattle.class_rows.specs.declared.row.Row.{Row}
 use Rattle.mode.specs.Class.{toldClass}
-use Rattle.mode.specs.Row.{rowOf}
+use Rattle.class_rows.specs.Row.{rowOf}
 use Rattle.mode.proofs.class.JumpType.{the-type}
 use Rattle.target.specs.Target.{relativeOf, shiftedLeft, shiftedRight, startBy}
 

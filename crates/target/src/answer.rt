@@ -31,7 +31,7 @@ fn reached(class: JumpType, mode: u32, big: bool, number: u32, address: u64, byt
     requires { ⌜ sizeOf (toldClass class) ≤ length (now bytes) ⌝ }
     ensures { λ r. ⌜ r ≡ reachedBy (toldClass class) big mode number (now (bytes .entry)) address ⌝ }
 {
-    let row = mode::row_of(class);
+    let row = class_rows::row_of(class);
     let signed = !has(mode, 4);
     let tested = number_bit(class, has(mode, 8));
     let opcode = byte_at(bytes, 0) / 32 * 32;

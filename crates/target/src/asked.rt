@@ -10,7 +10,7 @@ ghost use Rattle.target.specs.Target.{allowed, told};
 pub(crate) fn is_allowed(class: JumpType, mode: u32, number: u32, length: usize) -> bool
     ensures { λ r. ⌜ r ≡ allowed (toldClass class) mode number length ⌝ }
 {
-    let size = mode::get_onsite_size(class);
+    let size = class_rows::get_onsite_size(class);
     if 2048 <= mode {
         return false;
     }

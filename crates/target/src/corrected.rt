@@ -28,7 +28,7 @@ ghost use Rattle.target.specs.Corrected.{aheadOf, leadsTo};
 fn corrected_high(class: JumpType) -> u64
     ensures { λ r. ⌜ r ≡ defs.correctedHigh (toldClass class) ⌝ }
 {
-    let row = mode::row_of(class);
+    let row = class_rows::row_of(class);
     let JumpType::Addr19 = class else {
         return row.high;
     };
@@ -51,7 +51,7 @@ fn leads_to(class: JumpType, mode: u32, big: bool, number: u32, address: u64, by
     requires { ⌜ sizeOf (toldClass class) ≤ length (now bytes) ⌝ }
     ensures { λ r. ⌜ r ≡ leadsTo (toldClass class) big mode number (now (bytes .entry)) address ⌝ }
 {
-    let row = mode::row_of(class);
+    let row = class_rows::row_of(class);
     let signed = !has(mode, 4);
     let tested = number_bit(class, has(mode, 8));
     let opcode = byte_at(bytes, 0) / 32;

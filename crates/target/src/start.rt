@@ -50,10 +50,11 @@ pub(crate) fn start(class: JumpType, big: bool, opcode: u64, bytes: &[u8]) -> u6
     ensures { λ r. ⌜ r ≡ startBy opcode (toldClass class) big (now (bytes .entry)) ⌝ }
 {
     match class {
-        JumpType::Addr19 => opcode * 0x1_0000 + wide(mode::endian_to_number(big, &bytes[1..], 2)),
+        JumpType::Addr19 => opcode * 0x1_0000
+            + wide(joining::endian_to_number(big, &bytes[1..], 2)),
         JumpType::Addr11 => opcode * 256 + byte_at(bytes, 1),
-        JumpType::Addr24 => wide(mode::endian_to_number(big, bytes, 3)),
-        JumpType::Addr16 => wide(mode::endian_to_number(big, bytes, 2)),
+        JumpType::Addr24 => wide(joining::endian_to_number(big, bytes, 3)),
+        JumpType::Addr16 => wide(joining::endian_to_number(big, bytes, 2)),
         JumpType::Byte => byte_at(bytes, 0),
         JumpType::Other => 0,
     }
@@ -93,7 +94,7 @@ pub(crate) fn signed_number(signed: bool, tested: u64, n: u64) -> u64
 pub(crate) fn number_bit(class: JumpType, three: bool) -> u64
     ensures { λ r. ⌜ r ≡ defs.numberBit (toldClass class) three ⌝ }
 {
-    let row = mode::row_of(class);
+    let row = class_rows::row_of(class);
     let JumpType::Other = class else {
         return row.tested;
     };

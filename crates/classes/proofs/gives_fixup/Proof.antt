@@ -4,7 +4,7 @@ use Rattle.classes.proofs.gives_fixup.Tie as tie
 use Rattle.classes.proofs.gives_fixup.Reads as reads
 use Rattle.classes.proofs.gives_fixup.Lts as lts
 use Rattle.classes.proofs.class_by_bits.Reads as class-by-bits-reads
-use Rattle.mode.proofs.gives.Reads as gives-reads
+use Rattle.class_rows.proofs.gives.Reads as gives-reads
 
 class-by-bits-requires : tie.Need-class-by-bits-requires
 class-by-bits-requires c κs = search measuring

@@ -4,7 +4,7 @@ use Rattle.classes.proofs.size_on_site.Tie as tie
 use Rattle.classes.proofs.size_on_site.Reads as reads
 use Rattle.classes.proofs.size_on_site.Lts as lts
 use Rattle.classes.proofs.class_by_bits.Reads as class-by-bits-reads
-use Rattle.mode.proofs.get_onsite_size.Reads as get-onsite-size-reads
+use Rattle.class_rows.proofs.get_onsite_size.Reads as get-onsite-size-reads
 
 class-by-bits-requires : tie.Need-class-by-bits-requires
 class-by-bits-requires c κs = search measuring

@@ -4,7 +4,7 @@ use Rattle.probe_mode.proofs.classes.probe_size.Tie as tie
 use Rattle.probe_mode.proofs.classes.probe_size.Reads as reads
 use Rattle.probe_mode.proofs.classes.probe_size.Lts as lts
 use Rattle.mode.proofs.get_jump_type.Reads as get-jump-type-reads
-use Rattle.mode.proofs.get_onsite_size.Reads as get-onsite-size-reads
+use Rattle.class_rows.proofs.get_onsite_size.Reads as get-onsite-size-reads
 
 get-jump-type-requires : tie.Need-get-jump-type-requires
 get-jump-type-requires c κs = search probes

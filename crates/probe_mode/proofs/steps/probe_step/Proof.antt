@@ -4,7 +4,7 @@ use Rattle.probe_mode.proofs.steps.probe_step.Tie as tie
 use Rattle.probe_mode.proofs.steps.probe_step.Reads as reads
 use Rattle.probe_mode.proofs.steps.probe_step.Lts as lts
 use Rattle.mode.proofs.class_in.Reads as class-in-reads
-use Rattle.mode.proofs.modify_cmf_to_fixup.Reads as modify-cmf-to-fixup-reads
+use Rattle.mode_step.proofs.modify_cmf_to_fixup.Reads as modify-cmf-to-fixup-reads
 use Rattle.probe_mode.proofs.steps.step_answer.Reads as step-answer-reads
 
 class-in-requires : tie.Need-class-in-requires

@@ -3,7 +3,7 @@ use Rattle.target.proofs.answer.reached.Statement.{statement}
 use Rattle.target.proofs.answer.reached.Tie as tie
 use Rattle.target.proofs.answer.reached.Reads as reads
 use Rattle.target.proofs.answer.reached.Lts as lts
-use Rattle.mode.proofs.row_of.Reads as row-of-reads
+use Rattle.class_rows.proofs.row_of.Reads as row-of-reads
 use Rattle.target.proofs.start.byte_at.Reads as byte-at-reads
 use Rattle.target.proofs.start.has.Reads as has-reads
 use Rattle.target.proofs.start.near.Reads as near-reads

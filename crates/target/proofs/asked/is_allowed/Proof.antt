@@ -3,7 +3,7 @@ use Rattle.target.proofs.asked.is_allowed.Statement.{statement}
 use Rattle.target.proofs.asked.is_allowed.Tie as tie
 use Rattle.target.proofs.asked.is_allowed.Reads as reads
 use Rattle.target.proofs.asked.is_allowed.Lts as lts
-use Rattle.mode.proofs.get_onsite_size.Reads as get-onsite-size-reads
+use Rattle.class_rows.proofs.get_onsite_size.Reads as get-onsite-size-reads
 
 get-onsite-size-requires : tie.Need-get-onsite-size-requires
 get-onsite-size-requires c κs = search asking

@@ -3,7 +3,7 @@ use Rattle.target.proofs.corrected.leads_to.Statement.{statement}
 use Rattle.target.proofs.corrected.leads_to.Tie as tie
 use Rattle.target.proofs.corrected.leads_to.Reads as reads
 use Rattle.target.proofs.corrected.leads_to.Lts as lts
-use Rattle.mode.proofs.row_of.Reads as row-of-reads
+use Rattle.class_rows.proofs.row_of.Reads as row-of-reads
 use Rattle.target.proofs.corrected.ahead.Reads as ahead-reads
 use Rattle.target.proofs.corrected.corrected_high.Reads as corrected-high-reads
 use Rattle.target.proofs.start.byte_at.Reads as byte-at-reads

@@ -3,7 +3,7 @@ use Rattle.target.proofs.start.start.Statement.{statement}
 use Rattle.target.proofs.start.start.Tie as tie
 use Rattle.target.proofs.start.start.Reads as reads
 use Rattle.target.proofs.start.start.Lts as lts
-use Rattle.mode.proofs.endian_to_number.Reads as endian-to-number-reads
+use Rattle.joining.proofs.endian_to_number.Reads as endian-to-number-reads
 use Rattle.target.proofs.start.byte_at.Reads as byte-at-reads
 use Rattle.target.proofs.start.wide.Reads as wide-reads
 

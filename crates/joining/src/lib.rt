@@ -1,0 +1,4 @@
+// Bytes joined into a number.
+mod join;
+
+pub use join::endian_to_number;
