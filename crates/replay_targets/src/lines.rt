@@ -7,7 +7,7 @@ use crate::hex::short;
 use mode::Jump;
 use mode::JumpType;
 use mode::Step;
-use target::Answer;
+use target_parts::Answer;
 ghost use Prim.Native.Nat.{_≤_};
 
 // 1 if the port's answer differs, and how many bytes the line has.
