@@ -80,7 +80,7 @@ pub extern "C" fn gatecobalt_corrected_target(
 ) -> TargetNumbers
     ensures { λ r. ⌜ r ≡ targetNumbers (corrected big mode number (now (bytes .entry)) address) ⌝ }
 {
-    target_numbers(target::corrected_target(mode, big, number, address, bytes))
+    target_numbers(corrected::corrected_target(mode, big, number, address, bytes))
 }
 
 // Numbers in a row of each table.

@@ -22,9 +22,10 @@ use Rattle.mode_step.specs.declared.step.Step.{Step}
 use Rattle.mode_step.specs.declared.step.Step.the-variants.{Number, Short}
 use Rattle.mode.specs.Class.{classNamed, classTable, jumpOf, toldClass, toldJump}
 use Rattle.mode_step.specs.Step.{Modified, toldStep}
-use Rattle.target.specs.declared.answer.Answer.{Answer}
-use Rattle.target.specs.declared.answer.Answer.the-variants.{At, Refused}
-use Rattle.target.specs.Target.{targetBy, told}
+use Rattle.target_parts.specs.declared.asked.Answer.{Answer}
+use Rattle.target_parts.specs.declared.asked.Answer.the-variants.{At, Refused}
+use Rattle.target.specs.Target.{targetBy}
+use Rattle.target_parts.specs.Parts.{told}
 use Rattle.target.proofs.AnswerLaws.{by-the-table}
 use Rattle.probe_mode.specs.declared.steps.StepAnswer.{StepAnswer}
 use Rattle.probe_mode.specs.declared.targets.TargetAnswer.{TargetAnswer}

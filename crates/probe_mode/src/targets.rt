@@ -1,12 +1,13 @@
 // Targets: one, a corrected one, one with a lent table of class numbers, and a row of them.
-use target::Answer;
+use target_parts::Answer;
 ghost use mathlib.Core.Path.{_≡_};
 ghost use Prim.Native.Nat.{_%_, min};
 ghost use lib.ListN.{getD, set};
 ghost use Rattle.format.specs.Target.{target};
 ghost use Rattle.format.specs.Corrected.{corrected};
 ghost use Rattle.mode.specs.Class.{classNamed};
-ghost use Rattle.target.specs.Target.{targetBy, told};
+ghost use Rattle.target.specs.Target.{targetBy};
+ghost use Rattle.target_parts.specs.Parts.{told};
 ghost use Rattle.probe_mode.specs.Probe.{RowThere, Rows, rowTarget, rowsIn, targetAnswer};
 
 // The address, or the number and the place of a refusal.
@@ -61,7 +62,7 @@ pub extern "C" fn probe_corrected(
 ) -> TargetAnswer
     ensures { λ r. ⌜ r ≡ targetAnswer (corrected big mode number (now (bytes .entry)) address) ⌝ }
 {
-    let answer = target::corrected_target(mode, big, number, address, bytes);
+    let answer = corrected::corrected_target(mode, big, number, address, bytes);
     target_answer(answer)
 }
 

@@ -7,7 +7,7 @@ use crate::hex::short;
 use mode::Jump;
 use mode::JumpType;
 use mode_step::Step;
-use target::Answer;
+use target_parts::Answer;
 ghost use Prim.Native.Nat.{_≤_};
 
 // 1 if the port's answer differs, and how many bytes the line has.
@@ -59,14 +59,7 @@ fn step_line(line: &[u8]) -> u64
     let mut values = four(line, 8);
     let mut masks = four(line, 17);
     let mut kept = four(line, 26);
-    let step = mode_step::modify_cmf_to_fixup(
-        class,
-        three,
-        big,
-        &mut values,
-        &mut masks,
-        &mut kept,
-    );
+    let step = mode_step::modify_cmf_to_fixup(class, three, big, &mut values, &mut masks, &mut kept);
     let Step::Number(made) = step else {
         return 1;
     };

@@ -1,5 +1,1 @@
-pub mod AskedLaws
-pub mod StartLaws
 pub mod AnswerLaws
-pub mod CorrectedLaws
-pub mod Unique

@@ -1,34 +1,28 @@
 // The target of a fixup, or refusal 14.
-use crate::asked::is_allowed;
-use crate::asked::refused;
-use crate::start::byte_at;
-use crate::start::has;
-use crate::start::near;
-use crate::start::number_bit;
-use crate::start::relative;
-use crate::start::signed_number;
-use crate::start::signed_start;
-use crate::start::start;
-use crate::start::wide;
-use crate::word::sub64;
+use crate::ported::relative;
+use crate::ported::signed_number;
 use mode::JumpType;
+use target_parts::Answer;
+use target_parts::byte_at;
+use target_parts::has;
+use target_parts::is_allowed;
+use target_parts::near;
+use target_parts::number_bit;
+use target_parts::refused;
+use target_parts::signed_start;
+use target_parts::start;
+use target_parts::sub64;
+use target_parts::wide;
 ghost use mathlib.Core.Path.{_≡_};
-ghost use Prim.Native.Nat.{_≤_, _%_};
-ghost use lib.ListN.{getD, length};
-ghost use Rattle.format.specs.Mode.{sizeOf};
+ghost use Prim.Native.Nat.{_%_};
+ghost use lib.ListN.{getD};
 ghost use Rattle.format.specs.Target as defs;
 ghost use Rattle.mode.specs.Class.{classNamed, toldClass};
-ghost use Rattle.target.specs.Target.{reachedBy, targetBy, told};
+ghost use Rattle.target.specs.Target.{reachedBy, targetBy};
+ghost use Rattle.target_parts.specs.Parts.{told};
 
-// The address that a fixup's bytes refer to, or a refusal with its number and place.
-pub enum Answer {
-    At(u64),
-    Refused { number: u32, place: u64 },
-}
-
-// The target by a class, where the bytes are there.
+// The target by a class; what bytes there are not count as 0.
 fn reached(class: JumpType, mode: u32, big: bool, number: u32, address: u64, bytes: &[u8]) -> u64
-    requires { ⌜ sizeOf (toldClass class) ≤ length (now bytes) ⌝ }
     ensures { λ r. ⌜ r ≡ reachedBy (toldClass class) big mode number (now (bytes .entry)) address ⌝ }
 {
     let row = class_rows::row_of(class);
@@ -38,7 +32,7 @@ fn reached(class: JumpType, mode: u32, big: bool, number: u32, address: u64, byt
     let s = signed_start(signed, row.high, start(class, big, opcode, bytes));
     let n = signed_number(signed, tested, wide(number));
     let t = relative(class, mode, sub64(s, n), address);
-    near(row.closing, t, address)
+    near(class, t, address)
 }
 
 // The target by a class, or refusal 14.

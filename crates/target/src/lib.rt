@@ -1,12 +1,6 @@
-// The target of a fixup, as ported, and the corrected one that agrees with the processor.
+// The target of a fixup, as ported.
 mod answer;
-mod asked;
-mod class;
-mod corrected;
-mod start;
-mod word;
+mod ported;
 
-pub use answer::Answer;
 pub use answer::target;
 pub use answer::target_in;
-pub use corrected::corrected_target;

@@ -4,7 +4,7 @@ use Rattle.probe_mode.proofs.targets.probe_corrected.Tie as tie
 use Rattle.probe_mode.proofs.targets.probe_corrected.Reads as reads
 use Rattle.probe_mode.proofs.targets.probe_corrected.Lts as lts
 use Rattle.probe_mode.proofs.targets.target_answer.Reads as target-answer-reads
-use Rattle.target.proofs.corrected_target.Reads as corrected-target-reads
+use Rattle.corrected.proofs.corrected_target.Reads as corrected-target-reads
 
 corrected-target-requires : tie.Need-corrected-target-requires
 corrected-target-requires c κs = search probes
