@@ -8,14 +8,19 @@ ghost use Rattle.console.specs.Sinks.{Adds};
 ghost use Rattle.area_line.specs.Lines.{AddsId, kindText};
 use console::Buffer;
 use console::Sink;
-use rows_of::Id;
+use kept_areas::Id;
 
 // Whether an area is relocatable or absolute, and the base of an absolute one.
 pub fn kind(s: Sink, out: &mut Buffer, areas: &[u32], i: usize) -> Sink
     ensures { λ r. ⌜ Adds s (now (out .entry)) (kindText (areaAt (now (areas .entry)) i)) r (now (out .exit)) ⌝ }
 {
-    if rows_of::is_absolute(areas, i) {
-        return console::hex8(s, out, b" absolute ", cells::wide(rows_of::base(areas, i)));
+    if area_rows::is_absolute(areas, i) {
+        return console::hex8(
+            s,
+            out,
+            b" absolute ",
+            cells::wide(area_rows::base(areas, i)),
+        );
     }
     console::put(s, out, b" relocatable")
 }
@@ -24,7 +29,7 @@ pub fn kind(s: Sink, out: &mut Buffer, areas: &[u32], i: usize) -> Sink
 pub fn id(s: Sink, out: &mut Buffer, areas: &[u32], n: usize, i: usize) -> Sink
     ensures { λ r. ⌜ AddsId s (now (out .entry)) (the.rank 0 (areasIn (now (areas .entry)) n) i) r (now (out .exit)) ⌝ }
 {
-    match rows_of::area_id(areas, n, i) {
+    match kept_areas::area_id(areas, n, i) {
         Id::Kept { id } => console::decimal(s, out, b" id ", id),
         Id::Unkept => s,
     }

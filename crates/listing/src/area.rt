@@ -3,8 +3,8 @@ use crate::fixup;
 use crate::symbol;
 use console::Buffer;
 use console::Sink;
+use kept_areas::Id;
 use reading::Counts;
-use rows_of::Id;
 
 // A kept area's own line.
 fn title(s: Sink, out: &mut Buffer, areas: &[u32], n: usize, i: usize) -> Sink {
@@ -15,7 +15,7 @@ fn title(s: Sink, out: &mut Buffer, areas: &[u32], n: usize, i: usize) -> Sink {
         s3,
         out,
         b" size ",
-        cells::wide(rows_of::area_size(areas, i)),
+        cells::wide(area_rows::area_size(areas, i)),
     );
     console::put(s4, out, b"\n")
 }
@@ -54,8 +54,8 @@ fn code(
     masks: &[u8],
 ) -> Sink {
     let s1 = title(s, out, areas, n, i);
-    let values = rows_of::area_image(values, areas, n, i);
-    let masks = rows_of::area_image(masks, areas, n, i);
+    let values = kept_areas::area_image(values, areas, n, i);
+    let masks = kept_areas::area_image(masks, areas, n, i);
     image(s1, out, values, masks)
 }
 
@@ -72,7 +72,7 @@ fn area(
     masks: &[u8],
     fixups: &[u32],
 ) -> Sink {
-    match rows_of::area_id(areas, counts.areas, i) {
+    match kept_areas::area_id(areas, counts.areas, i) {
         Id::Unkept => s,
         Id::Kept { id } => {
             let s1 = code(s, out, areas, counts.areas, i, values, masks);

@@ -1,7 +1,7 @@
 // The lines of fixups.
 use console::Buffer;
 use console::Sink;
-use rows_of::Fixup;
+use fixup_rows::Fixup;
 
 // Where a fixup lies, how many bytes it takes, and its mode.
 fn place(s: Sink, out: &mut Buffer, f: Fixup) -> Sink {
@@ -37,7 +37,7 @@ pub(crate) fn lines(
     n: usize,
     id: usize,
 ) -> Sink {
-    let range = rows_of::area_fixups(fixups, n, id);
+    let range = fixup_rows::area_fixups(fixups, n, id);
     let end = range.end;
     let mut now = s;
     let mut j = range.start;
@@ -45,8 +45,8 @@ pub(crate) fn lines(
         now = line(
             now,
             out,
-            rows_of::fixup_at(fixups, j),
-            rows_of::fixup_name(text, fixups, j),
+            fixup_rows::fixup_at(fixups, j),
+            fixup_rows::fixup_name(text, fixups, j),
         );
         j += 1;
     }
