@@ -1,23 +1,23 @@
 // The lines of kept areas.
 use crate::fixup;
 use crate::symbol;
-use console::Buffer;
-use console::Sink;
 use kept_areas::Id;
 use reading::Counts;
+use sink::Buffer;
+use sink::Sink;
 
 // A kept area's own line.
 fn title(s: Sink, out: &mut Buffer, areas: &[u32], n: usize, i: usize) -> Sink {
-    let s1 = console::decimal(s, out, b"area ", i);
+    let s1 = texts::decimal(s, out, b"area ", i);
     let s2 = area_line::id(s1, out, areas, n, i);
     let s3 = area_line::kind(s2, out, areas, i);
-    let s4 = console::decimal(
+    let s4 = texts::decimal(
         s3,
         out,
         b" size ",
         cells::wide(area_rows::area_size(areas, i)),
     );
-    console::put(s4, out, b"\n")
+    sink::put(s4, out, b"\n")
 }
 
 // What stands in front of a position: at every eighth a new row begins with its number.
@@ -26,9 +26,9 @@ fn row_start(s: Sink, out: &mut Buffer, position: usize) -> Sink {
         return s;
     }
     if position == 0 {
-        return console::hex4(s, out, b"", position);
+        return texts::hex4(s, out, b"", position);
     }
-    console::hex4(s, out, b"\n", position)
+    texts::hex4(s, out, b"\n", position)
 }
 
 // The rows of an area's image: eight positions a row, each its value and its mask.
@@ -40,7 +40,7 @@ fn image(s: Sink, out: &mut Buffer, values: &[u8], masks: &[u8]) -> Sink {
         now = area_line::position(begun, out, values, masks, i);
         i += 1;
     }
-    console::put(now, out, b"\n")
+    sink::put(now, out, b"\n")
 }
 
 // A kept area's own line and its rows.
