@@ -11,11 +11,11 @@ use borrow.Author.Needs.{needs}
 use Rattle.hex.specs.Hex.{hexDigits, valueAndMask}
 use Rattle.format.specs.Lists.{pick}
 use Rattle.format.specs.Tables.{Area, absolute, base}
-use Rattle.rows_of.specs.Told.{toldId}
-use Rattle.rows_of.specs.declared.area.Id.{Id}
-use Rattle.rows_of.specs.declared.area.Id.the-variants.{Kept, Unkept}
-use Rattle.console.specs.declared.sink.Sink.{Sink}
-use Rattle.console.specs.Sinks.{Adds, AddsDecimal}
+use Rattle.kept_areas.specs.Told.{toldId}
+use Rattle.kept_areas.specs.declared.rank.Id.{Id}
+use Rattle.kept_areas.specs.declared.rank.Id.the-variants.{Kept, Unkept}
+use Rattle.sink.specs.declared.output.Sink.{Sink}
+use Rattle.sink.specs.Sinks.{Adds, AddsDecimal}
 use Rattle.area_line.specs.Lines.{AddsId, idWord, kindText, absoluteWord, relocatableWord}
 
 -- `kind`

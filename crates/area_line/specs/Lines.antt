@@ -7,8 +7,8 @@ use mathlib.Core.Option.{Option, some}
 use Rattle.hex.specs.Hex.{hexDigits}
 use Rattle.format.specs.Lists.{pick}
 use Rattle.format.specs.Tables.{Area, absolute, base}
-use Rattle.console.specs.Sinks.{AddsDecimal}
-use Rattle.console.specs.declared.sink.Sink.{Sink}
+use Rattle.sink.specs.Sinks.{AddsDecimal}
+use Rattle.sink.specs.declared.output.Sink.{Sink}
 
 -- ` id `
 abbrev pub idWord : List ℕ

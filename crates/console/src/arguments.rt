@@ -1,6 +1,5 @@
 // The program's arguments: names, options before a `--`, and `--as NAME FILE`, a file that is shown under another name.
 ghost use Prim.Native.Nat.{_≤_};
-use crate::part;
 
 // What the arguments ask for: the program's work on the names, where the options end before an argument's number; the
 // help; or what is not known, by the argument's number.
@@ -82,7 +81,7 @@ fn turn_at(i: usize, count: usize) -> Turn {
     match word_at(i) {
         Word::Name => Turn::On(0),
         Word::As => {
-            if part::end_of(i, 2, count) < count {
+            if sink::end_of(i, 2, count) < count {
                 return Turn::On(2);
             }
             Turn::Answer(Request::Unknown(i))
@@ -99,7 +98,7 @@ pub fn asked(count: usize) -> Request {
     while i < count {
         match turn_at(i, count) {
             Turn::On(more) => {
-                i = part::end_of(i + 1, more, count);
+                i = sink::end_of(i + 1, more, count);
             }
             Turn::Answer(answer) => {
                 return answer;

@@ -1,35 +1,31 @@
 // What is told on standard error: a line for each name that cannot be read and each module that is not whole.
-ghost use Rattle.console.specs.Sinks.{Written};
-use crate::digits;
-use crate::names;
-use crate::part;
-use crate::sink;
-use crate::sink::Buffer;
-use crate::sink::Sink;
+ghost use Rattle.sink.specs.Sinks.{Written};
 use libc::STDERR_FILENO;
+use sink::Buffer;
+use sink::Sink;
 
 // Writes the line that waits in a buffer of its own.
 fn write_line(s: Sink, line: &Buffer) {
-    io::write_all(STDERR_FILENO, part::first_bytes(line, s.used));
+    io::write_all(STDERR_FILENO, sink::first_bytes(line, s.used));
 }
 
 // Writes the name that waits in a buffer of its own, and why the last call failed.
 fn write_reason(s: Sink, line: &Buffer) {
-    os::fail(part::first_bytes(line, s.used))
+    os::fail(sink::first_bytes(line, s.used))
 }
 
 // A name, and why the last call failed.
 fn tell_reason(name: &[u8]) {
     let mut line = io::large_buffer();
-    let s = names::name(sink::new(), &mut line, name);
+    let s = texts::name(sink::new(), &mut line, name);
     write_reason(s, &line)
 }
 
 // A name, and where the reading of its module stopped.
 fn tell_place(name: &[u8], place: usize) {
     let mut line = io::large_buffer();
-    let s1 = names::name(sink::new(), &mut line, name);
-    let s2 = digits::decimal(s1, &mut line, b": stopped at ", place);
+    let s1 = texts::name(sink::new(), &mut line, name);
+    let s2 = texts::decimal(s1, &mut line, b": stopped at ", place);
     let s3 = sink::put(s2, &mut line, b"\n");
     write_line(s3, &line)
 }
@@ -37,9 +33,9 @@ fn tell_place(name: &[u8], place: usize) {
 // A name, and the number and the place of its module's refusal.
 fn tell_number(name: &[u8], number: usize, place: usize) {
     let mut line = io::large_buffer();
-    let s1 = names::name(sink::new(), &mut line, name);
-    let s2 = digits::decimal(s1, &mut line, b": refused ", number);
-    let s3 = digits::decimal(s2, &mut line, b" at ", place);
+    let s1 = texts::name(sink::new(), &mut line, name);
+    let s2 = texts::decimal(s1, &mut line, b": refused ", number);
+    let s3 = texts::decimal(s2, &mut line, b" at ", place);
     let s4 = sink::put(s3, &mut line, b"\n");
     write_line(s4, &line)
 }
@@ -80,7 +76,7 @@ pub fn tell_refused(s: Sink, out: &Buffer, name: &[u8], number: usize, place: us
 // The option that waits at the start of a buffer, or how it begins.
 fn write_option(word: &[u8], n: usize) {
     let mut line = io::large_buffer();
-    let s = names::name(sink::new(), &mut line, part::first_bytes(word, n));
+    let s = texts::name(sink::new(), &mut line, sink::first_bytes(word, n));
     write_line(s, &line)
 }
 

@@ -1,7 +1,6 @@
 // A whole text out of a descriptor.
 ghost use lib.ListN.{length};
 ghost use Rattle.console.specs.Inputs.{Within};
-use crate::part;
 
 // One byte more than the longest text, so that a text that is too long is seen to be.
 pub type Room = [u8; 65537];
@@ -52,7 +51,7 @@ fn fill_part(fd: i32, room: &mut [u8]) -> Input
     while 0 < turns {
         match read_from(fd, room, n) {
             Turn::Bytes(more) => {
-                n = part::end_of(n, more, room.len());
+                n = sink::end_of(n, more, room.len());
             }
             Turn::End => {
                 return Input::Text(n);

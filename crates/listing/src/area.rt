@@ -1,23 +1,23 @@
 // The lines of kept areas.
 use crate::fixup;
 use crate::symbol;
-use console::Buffer;
-use console::Sink;
+use kept_areas::Id;
 use reading::Counts;
-use rows_of::Id;
+use sink::Buffer;
+use sink::Sink;
 
 // A kept area's own line.
 fn title(s: Sink, out: &mut Buffer, areas: &[u32], n: usize, i: usize) -> Sink {
-    let s1 = console::decimal(s, out, b"area ", i);
+    let s1 = texts::decimal(s, out, b"area ", i);
     let s2 = area_line::id(s1, out, areas, n, i);
     let s3 = area_line::kind(s2, out, areas, i);
-    let s4 = console::decimal(
+    let s4 = texts::decimal(
         s3,
         out,
         b" size ",
-        cells::wide(rows_of::area_size(areas, i)),
+        cells::wide(area_rows::area_size(areas, i)),
     );
-    console::put(s4, out, b"\n")
+    sink::put(s4, out, b"\n")
 }
 
 // What stands in front of a position: at every eighth a new row begins with its number.
@@ -26,9 +26,9 @@ fn row_start(s: Sink, out: &mut Buffer, position: usize) -> Sink {
         return s;
     }
     if position == 0 {
-        return console::hex4(s, out, b"", position);
+        return texts::hex4(s, out, b"", position);
     }
-    console::hex4(s, out, b"\n", position)
+    texts::hex4(s, out, b"\n", position)
 }
 
 // The rows of an area's image: eight positions a row, each its value and its mask.
@@ -40,7 +40,7 @@ fn image(s: Sink, out: &mut Buffer, values: &[u8], masks: &[u8]) -> Sink {
         now = area_line::position(begun, out, values, masks, i);
         i += 1;
     }
-    console::put(now, out, b"\n")
+    sink::put(now, out, b"\n")
 }
 
 // A kept area's own line and its rows.
@@ -54,8 +54,8 @@ fn code(
     masks: &[u8],
 ) -> Sink {
     let s1 = title(s, out, areas, n, i);
-    let values = rows_of::area_image(values, areas, n, i);
-    let masks = rows_of::area_image(masks, areas, n, i);
+    let values = kept_areas::area_image(values, areas, n, i);
+    let masks = kept_areas::area_image(masks, areas, n, i);
     image(s1, out, values, masks)
 }
 
@@ -72,7 +72,7 @@ fn area(
     masks: &[u8],
     fixups: &[u32],
 ) -> Sink {
-    match rows_of::area_id(areas, counts.areas, i) {
+    match kept_areas::area_id(areas, counts.areas, i) {
         Id::Unkept => s,
         Id::Kept { id } => {
             let s1 = code(s, out, areas, counts.areas, i, values, masks);

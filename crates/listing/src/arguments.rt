@@ -1,15 +1,15 @@
 // What the program's arguments ask for.
 use crate::help;
 use crate::source;
-use console::Buffer;
 use console::Operand;
 use console::Request;
-use console::Sink;
+use sink::Buffer;
+use sink::Sink;
 
 // Tells of a name that no file can have: how it begins, and why.
 fn too_long(s: Sink, out: &Buffer, name: &mut [u8]) -> Sink {
     cells::copy_bytes(name, 60, b"..", 2);
-    console::complain(s, out, console::first_bytes(name, 62))
+    console::complain(s, out, sink::first_bytes(name, 62))
 }
 
 // Lists a file under the name that an argument gives.
@@ -57,7 +57,7 @@ fn list_arguments(ended: bool, s: Sink, out: &mut Buffer, end: usize, count: usi
     while i < count {
         let operand = console::operand_at(i, end);
         now = list_argument(ended, now, out, operand, i, end);
-        i = console::end_of(i + 1, operand.more, count);
+        i = sink::end_of(i + 1, operand.more, count);
     }
     now
 }
@@ -74,7 +74,7 @@ fn list(ended: bool, s: Sink, out: &mut Buffer, end: usize, count: usize) -> Sin
 fn answered(ended: bool, out: &mut Buffer) {
     let count = os::arg_count();
     match console::asked(count) {
-        Request::Work(end) => written(list(ended, console::new(), out, end, count), out),
+        Request::Work(end) => written(list(ended, sink::new(), out, end, count), out),
         Request::Help => help::help(ended),
         Request::Unknown(i) => help::tell_unknown(ended, i),
     }
@@ -82,7 +82,7 @@ fn answered(ended: bool, out: &mut Buffer) {
 
 // Writes what still waits.
 fn written(s: Sink, out: &Buffer) {
-    console::flush(s, out);
+    sink::flush(s, out);
 }
 
 // The whole program.

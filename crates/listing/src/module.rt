@@ -1,34 +1,34 @@
 // The listing of one module's text.
 use crate::area;
-use console::Buffer;
-use console::Sink;
 use reading::Answer;
 use reading::Counts;
 use reading::Verdict;
+use sink::Buffer;
+use sink::Sink;
 
 // The line of a refusal, which is told on standard error as well.
 fn refusal(s: Sink, out: &mut Buffer, name: &[u8], number: usize, place: usize) -> Sink {
-    let s1 = console::decimal(s, out, b"refused ", number);
-    let s2 = console::decimal(s1, out, b" at ", place);
-    let s3 = console::put(s2, out, b"\n");
+    let s1 = texts::decimal(s, out, b"refused ", number);
+    let s2 = texts::decimal(s1, out, b" at ", place);
+    let s3 = sink::put(s2, out, b"\n");
     console::tell_refused(s3, out, name, number, place)
 }
 
 // How many areas, symbols and T and R pairs there are.
 fn summary(s: Sink, out: &mut Buffer, counts: Counts) -> Sink {
-    let s1 = console::decimal(s, out, b"areas ", counts.areas);
-    let s2 = console::decimal(s1, out, b" symbols ", counts.symbols);
-    let s3 = console::decimal(s2, out, b" lines ", counts.lines);
-    console::put(s3, out, b"\n")
+    let s1 = texts::decimal(s, out, b"areas ", counts.areas);
+    let s2 = texts::decimal(s1, out, b" symbols ", counts.symbols);
+    let s3 = texts::decimal(s2, out, b" lines ", counts.lines);
+    sink::put(s3, out, b"\n")
 }
 
 // The ended reading's verdict: whether a byte is left, and where.
 fn verdict_line(s: Sink, out: &mut Buffer, verdict: Verdict) -> Sink {
     match verdict {
-        Verdict::Finished => console::put(s, out, b"finished\n"),
+        Verdict::Finished => sink::put(s, out, b"finished\n"),
         Verdict::Stopped { place } => {
-            let t = console::decimal(s, out, b"stopped at ", place);
-            console::put(t, out, b"\n")
+            let t = texts::decimal(s, out, b"stopped at ", place);
+            sink::put(t, out, b"\n")
         }
     }
 }
@@ -43,9 +43,9 @@ fn place_of(verdict: Verdict, n: usize) -> usize {
 
 // Where the plain reading of n bytes ended, in words that are no verdict.
 fn ending_line(s: Sink, out: &mut Buffer, place: usize, n: usize) -> Sink {
-    let s1 = console::decimal(s, out, b"plain reading ended at ", place);
-    let s2 = console::decimal(s1, out, b" of ", n);
-    console::put(s2, out, b"\n")
+    let s1 = texts::decimal(s, out, b"plain reading ended at ", place);
+    let s2 = texts::decimal(s1, out, b" of ", n);
+    sink::put(s2, out, b"\n")
 }
 
 // The second line.

@@ -1,20 +1,20 @@
 // Where texts come from: standard input, which is called `-`, and files by name.
 use crate::module;
-use console::Buffer;
 use console::Input;
 use console::Room;
-use console::Sink;
+use sink::Buffer;
+use sink::Sink;
 
 // Lists the first n bytes of the room.
 fn list_first(ended: bool, s: Sink, out: &mut Buffer, room: &Room, n: usize, name: &[u8]) -> Sink {
-    module::list(ended, s, out, console::first_bytes(room, n), name)
+    module::list(ended, s, out, sink::first_bytes(room, n), name)
 }
 
 // The line with a module's name, over its listing.
 fn title(s: Sink, out: &mut Buffer, name: &[u8], titled: bool) -> Sink {
     if titled {
-        let named = console::name(s, out, name);
-        return console::put(named, out, b":\n");
+        let named = texts::name(s, out, name);
+        return sink::put(named, out, b":\n");
     }
     s
 }

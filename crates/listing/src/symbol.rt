@@ -1,18 +1,18 @@
 // The lines of symbols.
-use console::Buffer;
-use console::Sink;
+use sink::Buffer;
+use sink::Sink;
 
 // Symbol j's line.
 fn line(s: Sink, out: &mut Buffer, text: &[u8], symbols: &[u32], j: usize) -> Sink {
-    let s1 = console::put(s, out, b"sym ");
-    let s2 = console::name(s1, out, rows_of::symbol_name(text, symbols, j));
-    let s3 = console::hex8(
+    let s1 = sink::put(s, out, b"sym ");
+    let s2 = texts::name(s1, out, symbol_rows::symbol_name(text, symbols, j));
+    let s3 = texts::hex8(
         s2,
         out,
         b" ",
-        cells::wide(rows_of::symbol_value(symbols, j)),
+        cells::wide(symbol_rows::symbol_value(symbols, j)),
     );
-    console::put(s3, out, b"\n")
+    sink::put(s3, out, b"\n")
 }
 
 // The lines of the symbols of an area, by its index, among n symbols, in the text's order.
@@ -24,7 +24,7 @@ pub(crate) fn lines(
     n: usize,
     area: usize,
 ) -> Sink {
-    let range = rows_of::area_symbols(symbols, n, area);
+    let range = symbol_rows::area_symbols(symbols, n, area);
     let end = range.end;
     let mut now = s;
     let mut j = range.start;

@@ -18,8 +18,8 @@ pub struct Sizes {
 fn kept_size(areas: &[u32], j: usize) -> usize
     ensures { λ r. ⌜ (r ≡ keptSize (areaAt (now (areas .entry)) j)) × (r < 4294967296) ⌝ }
 {
-    let size = rows_of::area_size(areas, j);
-    if rows_of::is_code(areas, j) {
+    let size = area_rows::area_size(areas, j);
+    if area_rows::is_code(areas, j) {
         return wide(size);
     }
     0

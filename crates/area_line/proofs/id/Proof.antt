@@ -3,8 +3,8 @@ use Rattle.area_line.proofs.id.Statement.{statement}
 use Rattle.area_line.proofs.id.Tie as tie
 use Rattle.area_line.proofs.id.Reads as reads
 use Rattle.area_line.proofs.id.Lts as lts
-use Rattle.console.proofs.decimal.Reads as decimal-reads
-use Rattle.rows_of.proofs.area_id.Reads as area-id-reads
+use Rattle.texts.proofs.decimal.Reads as decimal-reads
+use Rattle.kept_areas.proofs.area_id.Reads as area-id-reads
 
 area-id-requires : tie.Need-area-id-requires
 area-id-requires c κs = search ids

@@ -4,7 +4,7 @@ use Rattle.area_line.proofs.position.Tie as tie
 use Rattle.area_line.proofs.position.Reads as reads
 use Rattle.area_line.proofs.position.Lts as lts
 use Rattle.cells.proofs.byte_at.Reads as byte-at-reads
-use Rattle.console.proofs.put.Reads as put-reads
+use Rattle.sink.proofs.put.Reads as put-reads
 use Rattle.hex.proofs.value_and_mask.Reads as value-and-mask-reads
 
 byte-at-requires : tie.Need-byte-at-requires

@@ -5,7 +5,7 @@ use Rattle.console.proofs.arguments.asked.Tie as tie
 use Rattle.console.proofs.arguments.asked.Reads as reads
 use Rattle.console.proofs.arguments.asked.Lts as lts
 use Rattle.console.proofs.arguments.turn_at.Reads as turn-at-reads
-use Rattle.console.proofs.part.end_of.Reads as end-of-reads
+use Rattle.sink.proofs.end_of.Reads as end-of-reads
 
 abbrev Inv-loop : tie.InvT-loop
 Inv-loop count i₀ i = Unit {0}

@@ -7,7 +7,7 @@ use Rattle.console.proofs.input.fill_part.Tie as tie
 use Rattle.console.proofs.input.fill_part.Reads as reads
 use Rattle.console.proofs.input.fill_part.Lts as lts
 use Rattle.console.proofs.input.read_from.Reads as read-from-reads
-use Rattle.console.proofs.part.end_of.Reads as end-of-reads
+use Rattle.sink.proofs.end_of.Reads as end-of-reads
 
 abbrev Inv-loop : tie.InvT-loop
 Inv-loop fd room₀ turns₀ n₀ room turns n = (length room ≡ length room₀) × (n ≤ length room₀)

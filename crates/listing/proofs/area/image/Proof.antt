@@ -6,7 +6,7 @@ use Rattle.listing.proofs.area.image.Tie as tie
 use Rattle.listing.proofs.area.image.Reads as reads
 use Rattle.listing.proofs.area.image.Lts as lts
 use Rattle.area_line.proofs.position.Reads as position-reads
-use Rattle.console.proofs.put.Reads as put-reads
+use Rattle.sink.proofs.put.Reads as put-reads
 use Rattle.listing.proofs.area.row_start.Reads as row-start-reads
 
 abbrev Inv-loop : tie.InvT-loop

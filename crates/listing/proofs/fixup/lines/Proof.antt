@@ -5,9 +5,9 @@ use Rattle.listing.proofs.fixup.lines.Tie as tie
 use Rattle.listing.proofs.fixup.lines.Reads as reads
 use Rattle.listing.proofs.fixup.lines.Lts as lts
 use Rattle.listing.proofs.fixup.line.Reads as line-reads
-use Rattle.rows_of.proofs.fixup_at.Reads as fixup-at-reads
-use Rattle.rows_of.proofs.fixup_name.Reads as fixup-name-reads
-use Rattle.rows_of.proofs.area_fixups.Reads as area-fixups-reads
+use Rattle.fixup_rows.proofs.fixup_at.Reads as fixup-at-reads
+use Rattle.fixup_rows.proofs.fixup_name.Reads as fixup-name-reads
+use Rattle.fixup_rows.proofs.area_fixups.Reads as area-fixups-reads
 
 abbrev Inv-loop : tie.InvT-loop
 Inv-loop out₀ text fixups n id end now₀ j₀ out now j = Unit {0}

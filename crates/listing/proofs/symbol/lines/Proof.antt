@@ -5,7 +5,7 @@ use Rattle.listing.proofs.symbol.lines.Tie as tie
 use Rattle.listing.proofs.symbol.lines.Reads as reads
 use Rattle.listing.proofs.symbol.lines.Lts as lts
 use Rattle.listing.proofs.symbol.line.Reads as line-reads
-use Rattle.rows_of.proofs.area_symbols.Reads as area-symbols-reads
+use Rattle.symbol_rows.proofs.area_symbols.Reads as area-symbols-reads
 
 abbrev Inv-loop : tie.InvT-loop
 Inv-loop out₀ text symbols n area end now₀ j₀ out now j = Unit {0}

@@ -1,4 +1,0 @@
-pub mod Areas
-pub mod Cells
-pub mod Ranges
-pub mod Unique

@@ -1,4 +1,0 @@
-pub mod Fixups
-pub mod Parts
-pub mod Ranges
-pub mod Told
