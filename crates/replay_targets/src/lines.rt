@@ -59,7 +59,14 @@ fn step_line(line: &[u8]) -> u64
     let mut values = four(line, 8);
     let mut masks = four(line, 17);
     let mut kept = four(line, 26);
-    let step = mode_step::modify_cmf_to_fixup(class, three, big, &mut values, &mut masks, &mut kept);
+    let step = mode_step::modify_cmf_to_fixup(
+        class,
+        three,
+        big,
+        &mut values,
+        &mut masks,
+        &mut kept,
+    );
     let Step::Number(made) = step else {
         return 1;
     };
