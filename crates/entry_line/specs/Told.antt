@@ -6,8 +6,6 @@ use mathlib.Core.Option.{Option, none, some}
 use Rattle.format.specs.Number as the
 use Rattle.format.specs.Got.{Got, is, isnt}
 use Rattle.format.specs.Entries.{Entry, ignored, area, symbol}
-use Rattle.entry_line.specs.declared.parts.NameAt.{NameAt}
-use Rattle.entry_line.specs.declared.parts.NameAt.the-variants.{Name, NoName}
 use Rattle.entry_line.specs.declared.symbols.Sort.{Sort}
 use Rattle.entry_line.specs.declared.symbols.Sort.the-variants.{Ref, Def, Neither}
 use Rattle.entry_line.specs.declared.Addr.{Addr}
@@ -19,10 +17,6 @@ use Rattle.entry_line.specs.declared.Entry.the-variants.{Area, Symbol, I
 
 abbrev pub nameOf : ℕ → ℕ → the.Name
 nameOf at len = record { at = at; length = len }
-
-abbrev pub toldName : NameAt → Got the.Name
-toldName (Name at len next) = is (nameOf at len) next
-toldName (NoName r p) = isnt r p
 
 abbrev pub toldRef : Sort → Got Bool
 toldRef (Ref n) = is true n

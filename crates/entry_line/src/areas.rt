@@ -1,19 +1,18 @@
 // The A line: `A name size N flags N`, and perhaps ` addr N`.
 ghost use mathlib.Core.Path.{_≡_};
 ghost use Rattle.format.specs.Got.{is, optional};
-ghost use Rattle.format.specs.Entries.{field, spelled, size as sizeKey, flags as flagsKey, addr as addrKey, areaOf, areaLine};
-ghost use Rattle.numbers.specs.Told.{told};
+ghost use Rattle.format.specs.Entries.{field, spelled, addr as addrKey, areaOf, areaLine};
 ghost use Rattle.header.specs.Told.{formOf};
 ghost use Rattle.entry_line.specs.Told.{nameOf, addrOf, toldEntry};
 use crate::Addr;
 use crate::Entry;
 use crate::EntryLine;
 use crate::entries::halted;
-use crate::parts::NameAt;
-use crate::parts::field_at;
-use crate::parts::title;
-use crate::usual::usual_flags;
-use crate::usual::usual_four;
+use entry_parts::NameAt;
+use entry_parts::addr_field;
+use entry_parts::flags_field;
+use entry_parts::size_field;
+use entry_parts::title;
 use header::Form;
 use numbers::Num;
 use scan::Kind;
@@ -22,36 +21,6 @@ use scan::Kind;
 struct AddrAt {
     addr: Addr,
     next: usize,
-}
-
-// ` size N`. The usual form is read at once.
-fn size_field(t: &[u8], at: usize, radix: u8) -> Num
-    ensures { λ r. ⌜ told r ≡ field (spelled sizeKey) radix (now (t .entry)) at ⌝ }
-{
-    if usual_four(t, at, b's', b'i', b'z', b'e') {
-        return numbers::parse_number(t, at + 6, radix);
-    }
-    field_at(t, at, b"size", radix)
-}
-
-// ` flags N`, likewise.
-fn flags_field(t: &[u8], at: usize, radix: u8) -> Num
-    ensures { λ r. ⌜ told r ≡ field (spelled flagsKey) radix (now (t .entry)) at ⌝ }
-{
-    if usual_flags(t, at) {
-        return numbers::parse_number(t, at + 7, radix);
-    }
-    field_at(t, at, b"flags", radix)
-}
-
-// ` addr N`, likewise.
-fn addr_field(t: &[u8], at: usize, radix: u8) -> Num
-    ensures { λ r. ⌜ told r ≡ field (spelled addrKey) radix (now (t .entry)) at ⌝ }
-{
-    if usual_four(t, at, b'a', b'd', b'd', b'r') {
-        return numbers::parse_number(t, at + 6, radix);
-    }
-    field_at(t, at, b"addr", radix)
 }
 
 // ` addr N` where it can be read; else no byte is used.

@@ -2,9 +2,7 @@
 // and answers what the line says with the bytes used, or why and where it came to a halt. Places and names are places in the line.
 mod areas;
 mod entries;
-mod parts;
 mod symbols;
-mod usual;
 
 pub use areas::parse_area;
 pub use entries::parse_entry;

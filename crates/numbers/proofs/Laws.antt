@@ -2,6 +2,3 @@
 -- Assumes nothing.
 pub mod Numbers
 pub mod Short
-pub mod Many
-pub mod Lists
-pub mod Begun

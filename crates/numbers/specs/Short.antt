@@ -1,6 +1,6 @@
 -- What the short ways find: a 0 that stands alone, and a byte of two capital digits of radix 16, where the answer is below 256.
 -- Assumes nothing.
-use Prim.Native.Nat.{ℕ, _+_, _*_, _-_, _<_, _≤_}
+use Prim.Native.Nat.{ℕ, _+_, _*_, _<_, _≤_}
 use mathlib.Core.Path.{_≡_}
 use mathlib.Core.Bool.{Bool, true, false}
 use mathlib.Core.List.{List}
@@ -44,10 +44,3 @@ pub record Short (radix : ℕ) (s : List ℕ) (at v : ℕ) : Type 0 where
 pub record Spaced (radix : ℕ) (s : List ℕ) (at v : ℕ) : Type 0 where
   pub inside : v < 256 → at + 3 ≤ length s
   pub got : v < 256 → nextByte radix s at ≡ is v (at + 3)
-
--- a place before which spaced bytes may stand from another place on, or 0: three bytes of the text are behind any place before it, and 256 spaced bytes go no further
-pub record Reach (radix : ℕ) (s : List ℕ) (at last : ℕ) : Type 0 where
-  pub sixteen : 0 < last → radix ≡ 16
-  pub space : 0 < last → getD s at 0 ≡ 32
-  pub inside : last ≤ length s - 3
-  pub few : last ≤ at + 768

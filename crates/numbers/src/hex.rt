@@ -5,7 +5,7 @@ ghost use lib.ListN.{length};
 ghost use Rattle.numbers.specs.Short.{Hex, Two, Short, Spaced, capitals};
 
 // What a byte is worth as a capital digit of radix 16, or a number above 15 where it is none.
-pub(crate) fn hex_of(b: u8) -> u64
+fn hex_of(b: u8) -> u64
     ensures { λ r. ⌜ Hex b r ⌝ }
 {
     let x = b as u64;

@@ -143,7 +143,7 @@ pub fn parse_byte(t: &[u8], at: usize, radix: u8) -> Num
 }
 
 // Any number of blanks, at least one, and a byte of any length.
-pub(crate) fn any_next(t: &[u8], at: usize, radix: u8) -> Num
+fn any_next(t: &[u8], at: usize, radix: u8) -> Num
     ensures { λ r. ⌜ told r ≡ nextByte radix (now (t .entry)) at ⌝ }
 {
     let a = scan::past_kind(t, at, Kind::Blank);

@@ -1,14 +1,13 @@
 -- No second answer fits a contract: what an answer tells is told by no other.
 -- Assumes nothing.
 use Prim.Native.Nat.{ℕ}
-use mathlib.Core.Path.{_≡_, ap, sym, _∙_}
-use mathlib.Core.Bool.{Bool}
+use mathlib.Core.Path.{_≡_, sym, _∙_}
 use mathlib.Core.List.{List}
 use native.Mathlib.Omega.{arith}
 use Rattle.format.specs.Got.{Got}
 use Rattle.format.specs.Pairs as pairs
-use Rattle.numbers.specs.declared.Run.{Run}
-use Rattle.pair_line.specs.Pairs.{toldContent, toldRelocation, Contents, Rows, FragmentsRead, Relocations}
+use Rattle.fragments.proofs.Unique.{one-row}
+use Rattle.pair_line.specs.Pairs.{toldContent, toldRelocation, Contents, Relocations}
 use Rattle.pair_line.specs.declared.ContentLine.{ContentLine}
 use Rattle.pair_line.specs.declared.ContentLine.the-variants.{Content, NoContent}
 use Rattle.pair_line.specs.declared.RelocationLine.{RelocationLine}
@@ -43,18 +42,6 @@ one-relocation-line (NoRelocation r p) (NoRelocation s q) e =
     let a : r ≡ s = cc in
     let b : p ≡ q = cc in
     rw (a, b)
-
-one-row : (fs : List pairs.Fragment) (ms es xs ms′ es′ xs′ ms″ es″ xs″ : List ℕ) → Rows fs ms es xs ms′ es′ xs′ → Rows fs ms es xs ms″ es″ xs″ → (ms′ ≡ ms″) × (es′ ≡ es″) × (xs′ ≡ xs″)
-one-row fs ms es xs ms′ es′ xs′ ms″ es″ xs″ a b = (a .of-modes ∙ sym (b .of-modes), a .of-entries ∙ sym (b .of-entries), a .of-indexes ∙ sym (b .of-indexes))
-
--- `parse_reloc_frag`
-pub one-fragments : (radix : ℕ) (big : Bool) (s : List ℕ) (at : ℕ) (r r′ : Run) (ms es xs ms′ es′ xs′ ms″ es″ xs″ : List ℕ) → FragmentsRead radix big s at r ms es xs ms′ es′ xs′ → FragmentsRead radix big s at r′ ms es xs ms″ es″ xs″
-    → (r ≡ r′) × ((ms′ ≡ ms″) × (es′ ≡ es″) × (xs′ ≡ xs″))
-one-fragments radix big s at r r′ ms es xs ms′ es′ xs′ ms″ es″ xs″ a b =
-    (same (a .ran .counted ∙ sym (b .ran .counted)) (a .ran .reached ∙ sym (b .ran .reached)), one-row _ ms es xs ms′ es′ xs′ ms″ es″ xs″ (a .stored) (b .stored))
-  where
-    same : r .count ≡ r′ .count → r .end ≡ r′ .end → r ≡ r′
-    same p q = ap (λ (n : ℕ). record { count = n; end = r .end }) p ∙ ap (λ (n : ℕ). record { count = r′ .count; end = n }) q
 
 -- `parse_reloc_line`
 pub one-relocation : (m : Got pairs.Relocation) (r r′ : RelocationLine) (ms es xs ms′ es′ xs′ ms″ es″ xs″ : List ℕ) → Relocations m r ms es xs ms′ es′ xs′ → Relocations m r′ ms es xs ms″ es″ xs″

@@ -2,18 +2,14 @@
 -- Assumes nothing.
 use Prim.Native.Nat.{ℕ}
 use mathlib.Core.Path.{_≡_}
-use mathlib.Core.Bool.{Bool}
-use mathlib.Core.List.{List, [], map}
+use mathlib.Core.List.{List, []}
 use lib.ListN.{length}
 use lib.Seq.{sets}
-use Rattle.format.specs.Got.{Got, is, isnt, many}
-use Rattle.numbers.specs.Many.{Ran}
-use Rattle.numbers.specs.declared.Run.{Run}
+use Rattle.format.specs.Got.{Got, is, isnt}
 use Rattle.format.specs.Pairs as the
+use Rattle.fragments.specs.Fragments.{Rows}
 use Rattle.pair_line.specs.declared.ContentLine.{ContentLine}
 use Rattle.pair_line.specs.declared.ContentLine.the-variants.{Content, NoContent}
-use Rattle.pair_line.specs.declared.fragments.FragmentAt.{FragmentAt}
-use Rattle.pair_line.specs.declared.fragments.FragmentAt.the-variants.{Fragment, NoFragment}
 use Rattle.pair_line.specs.declared.RelocationLine.{RelocationLine}
 use Rattle.pair_line.specs.declared.RelocationLine.the-variants.{Relocation, NoRelocation}
 
@@ -41,11 +37,6 @@ pub record Contents (m read : Got the.Content) (room : List ℕ) (r : ContentLin
   pub answered : toldContent r ≡ counted m
   pub stored : left ≡ sets room 0 (bytesIn read)
 
--- what the code answers about a fragment
-abbrev pub toldFragment : FragmentAt → Got the.Fragment
-toldFragment (Fragment m e i n) = is (record { mode = m; entry = e; index = i }) n
-toldFragment (NoFragment r p) = isnt r p
-
 -- the fragments; none where the line was not read
 abbrev pub fragmentsIn : Got the.Relocation → List the.Fragment
 fragmentsIn (is c u) = c .fragments
@@ -60,27 +51,6 @@ numbered (isnt r p) = isnt r p
 abbrev pub toldRelocation : RelocationLine → Got Sized
 toldRelocation (Relocation a n u) = is (sized a n) u
 toldRelocation (NoRelocation r p) = isnt r p
-
--- the columns of fragments
-abbrev pub modes : List the.Fragment → List ℕ
-modes fs = map (λ (f : the.Fragment). f .mode) fs
-
-abbrev pub entries : List the.Fragment → List ℕ
-entries fs = map (λ (f : the.Fragment). f .entry) fs
-
-abbrev pub indexes : List the.Fragment → List ℕ
-indexes fs = map (λ (f : the.Fragment). f .index) fs
-
--- the fragments in three columns
-pub record Rows (fs : List the.Fragment) (ms es xs ms′ es′ xs′ : List ℕ) : Type 0 where
-  pub of-modes : ms′ ≡ sets ms 0 (modes fs)
-  pub of-entries : es′ ≡ sets es 0 (entries fs)
-  pub of-indexes : xs′ ≡ sets xs 0 (indexes fs)
-
--- as many fragments as can be read: all are counted, and as many are written as there is room for
-pub record FragmentsRead (radix : ℕ) (big : Bool) (s : List ℕ) (at : ℕ) (r : Run) (ms es xs ms′ es′ xs′ : List ℕ) : Type 0 where
-  pub ran : Ran (the.fragment radix big) s at (r .count) (r .end)
-  pub stored : Rows (many (length s) (the.fragment radix big) s at .items) ms es xs ms′ es′ xs′
 
 -- the answer tells m, and as many of its fragments are written as there is room for
 pub record Relocations (m : Got the.Relocation) (r : RelocationLine) (ms es xs ms′ es′ xs′ : List ℕ) : Type 0 where

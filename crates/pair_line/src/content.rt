@@ -42,7 +42,7 @@ pub fn parse_content(t: &[u8], form: Form, out: &mut [u8; 256]) -> ContentLine
             at: at,
         },
         Num::Is { value, next } => {
-            let run = numbers::parse_byte_many(t, next, form.radix, out);
+            let run = lists::parse_byte_many(t, next, form.radix, out);
             ContentLine::Content {
                 address: value,
                 count: run.count,

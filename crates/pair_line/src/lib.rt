@@ -1,15 +1,11 @@
 // The lines of group two, T and R, one reader each. A reader gets the bytes of one line, with no CR or LF among them,
 // and answers what the line says with the bytes used, or why and where it came to a halt. Places are places in the line.
 mod content;
-mod fragments;
-mod modes;
 mod relocations;
 mod usual;
 
 pub use content::parse_content;
 pub use content::whole_content;
-pub use fragments::parse_reloc_frag;
-pub use modes::parse_extended_mode;
 pub use relocations::parse_reloc_line;
 
 // A T line with the count of its content bytes, or its halt.

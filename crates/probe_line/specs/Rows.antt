@@ -16,7 +16,8 @@ use Rattle.laws.specs.Places.{lineEnd, endAt, nextLine}
 use Rattle.header.specs.declared.Form.{Form}
 use Rattle.header.specs.declared.Width.{Width}
 use Rattle.header.specs.declared.Width.the-variants.{Two, Three, Four}
-use Rattle.pair_line.specs.Pairs.{Sized, sized, counted, bytesIn, numbered, fragmentsIn, Rows}
+use Rattle.fragments.specs.Fragments.{Rows}
+use Rattle.pair_line.specs.Pairs.{Sized, sized, counted, bytesIn, numbered, fragmentsIn}
 use Rattle.probe_line.specs.declared.Row.{Row}
 
 -- the address length out of its number

@@ -26,7 +26,7 @@ use Rattle.header.specs.Told.{formOf, moreOf}
 use Rattle.header.specs.declared.Form as text
 use Rattle.header.specs.declared.Width.{Width}
 use Rattle.header.specs.declared.Width.the-variants as wide
-use Rattle.pair_line.specs.Pairs.{Rows, modes, entries, indexes}
+use Rattle.fragments.specs.Fragments.{Rows, modes, entries, indexes}
 use Rattle.sites.specs.Columns.{fragmentAt, fragmentsIn}
 use Rattle.place.specs.Pair.{contentOf, pairOf, pairIn, fits as fitsIn, told, usedNow, PairPlaced}
 use Rattle.homes.specs.Home.{homeAt}

@@ -187,7 +187,7 @@ fn of_small(reader: u32, form: Form, t: &[u8]) -> Answer {
         1 => of_number(numbers::parse_byte(t, 0, form.radix)),
         2 => of_number(joined::parse_multi_number(t, 0, form.radix, form.big, width)),
         3 => of_number(joined::parse_area_index(t, 0, form.radix, form.big)),
-        _ => of_number(pair_line::parse_extended_mode(t, 0, form.radix)),
+        _ => of_number(fragments::parse_extended_mode(t, 0, form.radix)),
     }
 }
 

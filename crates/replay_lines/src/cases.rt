@@ -95,7 +95,7 @@ fn agrees(t: &[u8]) -> bool {
     let mut n = [0u32; 11];
     let p = numbers(t, &mut n);
     let mut bytes = [0u8; 256];
-    let run = numbers::parse_byte_many(t, p, 16, &mut bytes);
+    let run = lists::parse_byte_many(t, p, 16, &mut bytes);
     if run.end != t.len() {
         return false;
     }

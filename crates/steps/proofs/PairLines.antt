@@ -19,7 +19,8 @@ use Rattle.format.specs.Entries.{letterAndMore}
 use Rattle.format.specs.Pairs.{wholeContent, contentLine, relocationLine, placedOf, skippedOf, pairOf}
 use Rattle.format.specs.Pairs as the
 use Rattle.laws.proofs.Within.{Holds, Upto, relocation-keeps}
-use Rattle.pair_line.specs.Pairs.{Contents, Relocations, bytesIn, counted as countedOf, toldContent, fragmentsIn, numbered, toldRelocation, Rows}
+use Rattle.fragments.specs.Fragments.{Rows}
+use Rattle.pair_line.specs.Pairs.{Contents, Relocations, bytesIn, counted as countedOf, toldContent, fragmentsIn, numbered, toldRelocation}
 use Rattle.pair_line.specs.declared.ContentLine.{ContentLine}
 use Rattle.pair_line.specs.declared.ContentLine.the-variants.{Content, NoContent}
 use Rattle.pair_line.specs.declared.RelocationLine.{RelocationLine}

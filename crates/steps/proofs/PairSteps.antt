@@ -23,7 +23,8 @@ use Rattle.format.specs.Records.{Step, stops, last, goes, stepOf}
 use Rattle.format.specs.Pairs as the
 use Rattle.laws.specs.Places.{lineEnd, endAt, nextLine, lineAt, pairAt}
 use Rattle.laws.proofs.Within.{Holds, PairIn, pair-in}
-use Rattle.pair_line.specs.Pairs.{bytesIn, fragmentsIn, modes, entries, indexes, Rows}
+use Rattle.fragments.specs.Fragments.{modes, entries, indexes, Rows}
+use Rattle.pair_line.specs.Pairs.{bytesIn, fragmentsIn}
 use Rattle.steps.specs.Entries.{LineIs}
 use Rattle.steps.specs.PairLines.{none, caseOf, storedBy, Left, bytesAt, fragmentsAt, LeftAt, BodyIs, PairSays, PairIs, StepSays, PairStepIs, UsedBounds, UsedIn, stepFrom}
 use Rattle.steps.specs.declared.pair.Body.{Body}

@@ -13,7 +13,8 @@ use Rattle.format.specs.Header.{Form}
 use Rattle.format.specs.Records.{Step, stops, last, goes}
 use Rattle.format.specs.Pairs as the
 use Rattle.laws.specs.Places.{endAt, nextLine, lineAt, pairAt}
-use Rattle.pair_line.specs.Pairs.{bytesIn, fragmentsIn, Rows}
+use Rattle.fragments.specs.Fragments.{Rows}
+use Rattle.pair_line.specs.Pairs.{bytesIn, fragmentsIn}
 use Rattle.scan.specs.declared.LineAt.{LineAt}
 use Rattle.steps.specs.declared.pair.Body.{Body}
 use Rattle.steps.specs.declared.pair.Body.the-variants.{Skipped, Placed}

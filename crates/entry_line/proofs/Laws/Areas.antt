@@ -14,10 +14,11 @@ use Rattle.format.specs.Number as the
 use Rattle.numbers.specs.Told.{told}
 use Rattle.numbers.specs.declared.Num.{Num}
 use Rattle.numbers.specs.declared.Num.the-variants.{Is, No}
-use Rattle.entry_line.specs.Told.{nameOf, toldName}
+use Rattle.entry_parts.specs.Told.{toldName}
+use Rattle.entry_line.specs.Told.{nameOf}
 use Rattle.fields.specs.Told.{halt}
-use Rattle.entry_line.specs.declared.parts.NameAt.{NameAt}
-use Rattle.entry_line.specs.declared.parts.NameAt.the-variants.{Name, NoName}
+use Rattle.entry_parts.specs.declared.NameAt.{NameAt}
+use Rattle.entry_parts.specs.declared.NameAt.the-variants.{Name, NoName}
 
 -- `addr_at`
 module _ (radix : ℕ) (s : List ℕ) (at : ℕ) {m : Num} (e : told m ≡ field (spelled addr) radix s at) where

@@ -16,10 +16,11 @@ use Rattle.numbers.specs.Told.{told}
 use Rattle.numbers.specs.declared.Num.{Num}
 use Rattle.numbers.specs.declared.Num.the-variants.{Is, No}
 use Rattle.numbers.proofs.Laws.Numbers.{space-no, space-is}
-use Rattle.entry_line.specs.Told.{nameOf, toldName, toldRef}
+use Rattle.entry_parts.specs.Told.{toldName}
+use Rattle.entry_line.specs.Told.{nameOf, toldRef}
 use Rattle.fields.specs.Told.{halt}
-use Rattle.entry_line.specs.declared.parts.NameAt.{NameAt}
-use Rattle.entry_line.specs.declared.parts.NameAt.the-variants.{Name, NoName}
+use Rattle.entry_parts.specs.declared.NameAt.{NameAt}
+use Rattle.entry_parts.specs.declared.NameAt.the-variants.{Name, NoName}
 use Rattle.entry_line.specs.declared.symbols.Sort.{Sort}
 use Rattle.entry_line.specs.declared.symbols.Sort.the-variants.{Ref, Def, Neither}
 use Rattle.fields.proofs.Laws.Fields.{word-no, word-is}

@@ -22,7 +22,7 @@ use Rattle.numbers.specs.declared.Num.the-variants.{Is, No}
 use Rattle.fields.specs.declared.Place.{Place}
 use Rattle.fields.specs.declared.Place.the-variants.{At, Not}
 use Rattle.fields.specs.Told.{went}
-use Rattle.numbers.specs.Many.{BytesRead}
+use Rattle.lists.specs.Many.{BytesRead}
 use Rattle.pair_line.specs.Usual.{Led}
 use Rattle.pair_line.specs.Pairs.{Sized, sized, bytesIn, counted, toldContent, Contents}
 use Rattle.pair_line.specs.declared.ContentLine.{ContentLine}

@@ -21,8 +21,9 @@ use Rattle.numbers.specs.declared.Num.the-variants.{Is, No}
 use Rattle.fields.specs.declared.Place.{Place}
 use Rattle.fields.specs.declared.Place.the-variants.{At, Not}
 use Rattle.fields.specs.Told.{went}
+use Rattle.fragments.specs.Fragments.{FragmentsRead}
 use Rattle.pair_line.specs.Usual.{Zeroed}
-use Rattle.pair_line.specs.Pairs.{sized, counted, fragmentsIn, numbered, FragmentsRead, Relocations}
+use Rattle.pair_line.specs.Pairs.{sized, counted, fragmentsIn, numbered, Relocations}
 use Rattle.pair_line.specs.declared.RelocationLine.the-variants.{Relocation, NoRelocation}
 
 -- `zero_index`

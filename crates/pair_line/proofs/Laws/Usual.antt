@@ -22,7 +22,7 @@ use Rattle.fields.specs.Due.{Due}
 use Rattle.fields.specs.declared.Place.the-variants.{At}
 use Rattle.fields.proofs.Laws.Fields.{one-lead, due-here, due-before}
 use Rattle.pair_line.specs.Usual.{Led, Zeroed}
-use Rattle.pair_line.proofs.Laws.Fragments.{index-2}
+use Rattle.fragments.proofs.Laws.Fragments.{index-2}
 use Rattle.pair_line.proofs.Laws.Relocations.{zero-2, part-3}
 
 -- a line's letter and one space

@@ -1,0 +1,87 @@
+// Lists of bytes, each behind blanks.
+// A reader takes a text and a place, and answers how many there were and the place behind them. Past the end it reads nothing.
+ghost use mathlib.Core.Path.{_≡_};
+ghost use lib.ListN.{set};
+ghost use Rattle.lists.specs.Many.{BytesRead, BytesBegun};
+ghost use Rattle.lists.specs.Reach.{Reach};
+use numbers::Num;
+
+// How many things were read one after another, and the place behind them.
+pub struct Run {
+    pub count: usize,
+    pub end: usize,
+}
+
+// A byte into its place of what was lent; past the end nothing is written.
+fn put_byte(out: &mut [u8], i: usize, b: u8)
+    ensures { λ _. ⌜ now (out .exit) ≡ set (now (out .entry)) i b ⌝ }
+{
+    if i < out.len() {
+        out[i] = b;
+    }
+}
+
+// The place before which bytes of a list may be read in the usual form, or 0: a space stands in front of the first, the text goes on behind each, and they are 256 at most.
+fn reach_of(t: &[u8], at: usize, radix: u8) -> usize
+    ensures { λ r. ⌜ Reach radix (now (t .entry)) at r ⌝ }
+{
+    if radix != 16 {
+        return 0;
+    }
+    if t.len() <= at {
+        return 0;
+    }
+    if t.len() - at < 4 {
+        return 0;
+    }
+    if t[at] != 32 {
+        return 0;
+    }
+    let last = t.len() - 3;
+    if 768 < last - at {
+        return at + 768;
+    }
+    last
+}
+
+// The first bytes of a list, as many as stand there as one space, two capital digits of radix 16 and the space of the next.
+fn begin_bytes(t: &[u8], at: usize, radix: u8, out: &mut [u8; 256]) -> Run
+    ensures { λ r. ⌜ BytesBegun radix (now (t .entry)) at r (now (out .entry)) (now (out .exit)) ⌝ }
+{
+    let last = reach_of(t, at, radix);
+    let mut n = 0;
+    let mut p = at;
+    while p < last {
+        let v = numbers::two_capitals(t[p + 1], t[p + 2]);
+        if 255 < v {
+            return Run { count: n, end: p };
+        }
+        if t[p + 3] != 32 {
+            return Run { count: n, end: p };
+        }
+        out[n] = v as u8;
+        n += 1;
+        p += 3;
+    }
+    Run { count: n, end: p }
+}
+
+// As many bytes as can be read, each behind blanks. The first 256 are written, all are counted.
+pub fn parse_byte_many(t: &[u8], at: usize, radix: u8, out: &mut [u8; 256]) -> Run
+    ensures { λ r. ⌜ BytesRead radix (now (t .entry)) at r (now (out .entry)) (now (out .exit)) ⌝ }
+{
+    let begun = begin_bytes(t, at, radix, out);
+    let mut n = begun.count;
+    let mut p = begun.end;
+    let mut k = t.len() - n;
+    while 0 < k {
+        let Num::Is { value, next } = numbers::next_byte(t, p, radix) else {
+            return Run { count: n, end: p };
+        };
+        put_byte(out, n, value as u8);
+        n += 1;
+        p = next;
+        k -= 1;
+    }
+    Run { count: n, end: p }
+}
