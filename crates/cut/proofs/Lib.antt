@@ -6,3 +6,6 @@ pub mod Opened
 pub mod Verdict
 pub mod Theorem
 pub mod Buffers
+pub mod LineCut
+pub mod Steps
+pub mod ParsedCut

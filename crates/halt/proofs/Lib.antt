@@ -1,0 +1,10 @@
+pub mod Told
+pub mod Spans
+pub mod LineSpans
+pub mod HaltSpans
+pub mod Stop
+pub mod Place
+pub mod Local
+pub mod Own
+pub mod Cut
+pub mod Paired
