@@ -2,6 +2,7 @@
 // A reader takes a text and a place, and answers how many there were and the place behind them. Past the end it reads nothing.
 ghost use mathlib.Core.Path.{_≡_};
 ghost use lib.ListN.{set};
+ghost use Rattle.numbers.specs.Short.{Hex};
 ghost use Rattle.lists.specs.Many.{BytesRead, BytesBegun};
 ghost use Rattle.lists.specs.Reach.{Reach};
 use numbers::Num;
@@ -44,6 +45,20 @@ fn reach_of(t: &[u8], at: usize, radix: u8) -> usize
     last
 }
 
+// What a byte is worth as a capital digit of radix 16, or a number above 15 where it is none. Each digit is tested by itself, so that a byte takes no test more.
+fn hex_of(b: u8) -> u64
+    ensures { λ r. ⌜ Hex b r ⌝ }
+{
+    let x = b as u64;
+    if x < 58 {
+        return std::num::wrapping_sub_u64(x, 48);
+    }
+    if x < 65 {
+        return x;
+    }
+    x - 55
+}
+
 // The first bytes of a list, as many as stand there as one space, two capital digits of radix 16 and the space of the next.
 fn begin_bytes(t: &[u8], at: usize, radix: u8, out: &mut [u8; 256]) -> Run
     ensures { λ r. ⌜ BytesBegun radix (now (t .entry)) at r (now (out .entry)) (now (out .exit)) ⌝ }
@@ -52,14 +67,18 @@ fn begin_bytes(t: &[u8], at: usize, radix: u8, out: &mut [u8; 256]) -> Run
     let mut n = 0;
     let mut p = at;
     while p < last {
-        let v = numbers::two_capitals(t[p + 1], t[p + 2]);
-        if 255 < v {
+        let d = hex_of(t[p + 1]);
+        let e = hex_of(t[p + 2]);
+        if 15 < d {
+            return Run { count: n, end: p };
+        }
+        if 15 < e {
             return Run { count: n, end: p };
         }
         if t[p + 3] != 32 {
             return Run { count: n, end: p };
         }
-        out[n] = v as u8;
+        out[n] = (d * 16 + e) as u8;
         n += 1;
         p += 3;
     }

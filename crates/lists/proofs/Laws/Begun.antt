@@ -9,9 +9,9 @@ use borrow.Author.Needs.{needs}
 use Rattle.format.specs.Got.{many}
 use Rattle.format.specs.Number.{nextByte}
 use Rattle.lists.specs.Many.{BytesBegun}
-use Rattle.numbers.specs.Short.{Spaced, capitals}
+use Rattle.numbers.specs.Short.{Hex, Spaced}
 use Rattle.lists.specs.Reach.{Reach}
-use Rattle.numbers.proofs.Laws.Short.{two-is, spaced-is}
+use Rattle.numbers.proofs.Laws.Short.{capitals-3, two-is, spaced-is}
 use Rattle.lists.proofs.Laws.Many.{Counting, Column, count-start, column-start}
 use Rattle.lists.proofs.Laws.Lists.{self, spaced-more, spaced-stored}
 
@@ -33,14 +33,14 @@ module _ {radix : ℕ} {s : List ℕ} {at last : ℕ} (w : Reach radix s at last
         space = λ h. w .space (omega arith);
       }
 
-  module _ {room left : List ℕ} {n p v : ℕ} (u : Beginning radix s at last room left n p) (h : p < last) (e : v ≡ capitals (getD s (p + 1) 0) (getD s (p + 2) 0)) (k : v ≤ 255) (c : getD s (p + 3) 0 ≡ 32) where
-    begin-spaced : Spaced radix s p v
+  module _ {room left : List ℕ} {n p d e : ℕ} (u : Beginning radix s at last room left n p) (h : p < last) (a : Hex (getD s (p + 1) 0) d) (b : Hex (getD s (p + 2) 0) e) (k : d ≤ 15) (l : e ≤ 15) (c : getD s (p + 3) 0 ≡ 32) where
+    begin-spaced : Spaced radix s p (d * 16 + e)
     begin-spaced =
         let x : p + 1 + 1 ≡ p + 2 = omega arith in
         let y : p + 1 + 2 ≡ p + 3 = omega arith in
-        spaced-is radix s p (w .sixteen (omega arith)) (omega arith) (omega arith) (u .space h) (two-is s (p + 1) {v = v} {c = 32} (omega arith) (rw x e) (rw (y, c)) (omega arith))
+        spaced-is radix s p (w .sixteen (omega arith)) (omega arith) (omega arith) (u .space h) (two-is s (p + 1) {v = d * 16 + e} {c = 32} (omega arith) (rw x (capitals-3 (getD s (p + 1) 0) (getD s (p + 2) 0) a b k l)) (rw (y, c)) (omega arith))
 
-    pub begin-more : Beginning radix s at last room (set left n v) (n + 1) (p + 3)
+    pub begin-more : Beginning radix s at last room (set left n (d * 16 + e)) (n + 1) (p + 3)
     begin-more =
         let z : length s - n - 1 ≡ length s - (n + 1) = omega arith in
         record {

@@ -2,7 +2,6 @@ use Prim.Native.Nat.{_-_}
 use Rattle.lists.proofs.Laws.Begun.{Beginning, beginning}
 use Rattle.lists.proofs.begin_bytes.Statement.{statement}
 use Rattle.lists.proofs.begin_bytes.Tie as tie
-use Rattle.numbers.proofs.two_capitals.Reads as two-capitals-reads
 
 abbrev Inv-loop : tie.InvT-loop
 Inv-loop t at radix out₀ last n₀ p₀ out n p = Beginning radix t at last out₀ out n p
@@ -16,32 +15,44 @@ reach-of-requires c κs = search beginning
 loop-holds : tie.Need-loop-holds Inv-loop μ-loop
 loop-holds c = search beginning
 
-add-two-capitals : tie.Need-add-two-capitals Inv-loop μ-loop
-add-two-capitals c = search beginning
+add-hex-of : tie.Need-add-hex-of Inv-loop μ-loop
+add-hex-of c = search beginning
 
-shared-slice-read-two-capitals : tie.Need-shared-slice-read-two-capitals Inv-loop μ-loop
-shared-slice-read-two-capitals c = search beginning
+shared-slice-read-hex-of : tie.Need-shared-slice-read-hex-of Inv-loop μ-loop
+shared-slice-read-hex-of c = search beginning
 
-add-two-capitals-2 : tie.Need-add-two-capitals-2 Inv-loop μ-loop
-add-two-capitals-2 c = search beginning
+hex-of-requires : tie.Need-hex-of-requires Inv-loop μ-loop
+hex-of-requires c κs = search beginning
 
-shared-slice-read-two-capitals-2 : tie.Need-shared-slice-read-two-capitals-2 Inv-loop μ-loop
-shared-slice-read-two-capitals-2 c = search beginning
+add-hex-of-2 : tie.Need-add-hex-of-2 Inv-loop μ-loop
+add-hex-of-2 c = search beginning
 
-two-capitals-requires : tie.Need-two-capitals-requires Inv-loop μ-loop
-two-capitals-requires c κs = search beginning
+shared-slice-read-hex-of-2 : tie.Need-shared-slice-read-hex-of-2 Inv-loop μ-loop
+shared-slice-read-hex-of-2 c = search beginning
+
+hex-of-requires-2 : tie.Need-hex-of-requires-2 Inv-loop μ-loop
+hex-of-requires-2 c κs = search beginning
 
 returns : tie.Need-returns Inv-loop μ-loop
 returns c = search beginning
 
-add-if2 : tie.Need-add-if2 Inv-loop μ-loop
-add-if2 c = search beginning
-
-shared-slice-read-if2 : tie.Need-shared-slice-read-if2 Inv-loop μ-loop
-shared-slice-read-if2 c = search beginning
-
 returns-2 : tie.Need-returns-2 Inv-loop μ-loop
 returns-2 c = search beginning
+
+add-if3 : tie.Need-add-if3 Inv-loop μ-loop
+add-if3 c = search beginning
+
+shared-slice-read-if3 : tie.Need-shared-slice-read-if3 Inv-loop μ-loop
+shared-slice-read-if3 c = search beginning
+
+returns-3 : tie.Need-returns-3 Inv-loop μ-loop
+returns-3 c = search beginning
+
+mul-out : tie.Need-mul-out Inv-loop μ-loop
+mul-out c = search beginning
+
+add-out : tie.Need-add-out Inv-loop μ-loop
+add-out c = search beginning
 
 cast-out : tie.Need-cast-out Inv-loop μ-loop
 cast-out c = search beginning
@@ -61,8 +72,8 @@ loop-less c = search beginning
 loop-again : tie.Need-loop-again Inv-loop μ-loop
 loop-again c = search beginning
 
-returns-3 : tie.Need-returns-3 Inv-loop μ-loop
-returns-3 c = search beginning
+returns-4 : tie.Need-returns-4 Inv-loop μ-loop
+returns-4 c = search beginning
 
 pub begin-bytes-spec : {M : Type 1} → statement M
 begin-bytes-spec =
@@ -72,19 +83,23 @@ begin-bytes-spec =
     μ-loop
     reach-of-requires
     loop-holds
-    add-two-capitals
-    shared-slice-read-two-capitals
-    add-two-capitals-2
-    shared-slice-read-two-capitals-2
-    two-capitals-requires
+    add-hex-of
+    shared-slice-read-hex-of
+    hex-of-requires
+    add-hex-of-2
+    shared-slice-read-hex-of-2
+    hex-of-requires-2
     returns
-    add-if2
-    shared-slice-read-if2
     returns-2
+    add-if3
+    shared-slice-read-if3
+    returns-3
+    mul-out
+    add-out
     cast-out
     element-write-out
     add-n
     add-p
     loop-less
     loop-again
-    returns-3)
+    returns-4)
