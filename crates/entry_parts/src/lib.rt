@@ -7,6 +7,7 @@ mod usual;
 pub use area_fields::addr_field;
 pub use area_fields::flags_field;
 pub use area_fields::size_field;
+pub use parts::field_at;
 pub use parts::title;
 
 // A name's place and length and the place behind it, or why and where it came to a halt.

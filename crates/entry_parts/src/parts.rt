@@ -38,7 +38,7 @@ pub fn title(t: &[u8], w: &[u8]) -> NameAt
 }
 
 // A word and a number, each behind blanks.
-pub(crate) fn field_at(t: &[u8], at: usize, w: &[u8], radix: u8) -> Num
+pub fn field_at(t: &[u8], at: usize, w: &[u8], radix: u8) -> Num
     ensures { λ r. ⌜ told r ≡ field (now (w .entry)) radix (now (t .entry)) at ⌝ }
 {
     let a = scan::past_kind(t, at, Kind::Blank);

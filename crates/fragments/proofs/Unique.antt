@@ -4,9 +4,12 @@ use Prim.Native.Nat.{ℕ}
 use mathlib.Core.Path.{_≡_, ap, sym, _∙_}
 use mathlib.Core.Bool.{Bool}
 use mathlib.Core.List.{List}
+use native.Mathlib.Omega.{arith}
 use Rattle.format.specs.Pairs as pairs
 use Rattle.lists.specs.declared.Run.{Run}
-use Rattle.fragments.specs.Fragments.{Rows, FragmentsRead}
+use Rattle.fragments.specs.Fragments.{FragmentsRead, Rows, toldFragment}
+use Rattle.fragments.specs.declared.fragments.FragmentAt.{FragmentAt}
+use Rattle.fragments.specs.declared.fragments.FragmentAt.the-variants.{Fragment, NoFragment}
 
 -- three columns
 pub one-row : (fs : List pairs.Fragment) (ms es xs ms′ es′ xs′ ms″ es″ xs″ : List ℕ) → Rows fs ms es xs ms′ es′ xs′ → Rows fs ms es xs ms″ es″ xs″ → (ms′ ≡ ms″) × (es′ ≡ es″) × (xs′ ≡ xs″)
@@ -20,3 +23,23 @@ one-fragments radix big s at r r′ ms es xs ms′ es′ xs′ ms″ es″ xs″
   where
     same : r .count ≡ r′ .count → r .end ≡ r′ .end → r ≡ r′
     same p q = ap (λ (n : ℕ). record { count = n; end = r .end }) p ∙ ap (λ (n : ℕ). record { count = r′ .count; end = n }) q
+
+abbrev fragmentOf : ℕ → ℕ → ℕ → pairs.Fragment
+fragmentOf m e i = record { mode = m; entry = e; index = i }
+
+-- `fragment_at`
+pub one-fragment : (a b : FragmentAt) → toldFragment a ≡ toldFragment b → a ≡ b
+one-fragment (Fragment m e i p) (Fragment n f j q) h =
+    all (ap (λ (k : pairs.Fragment). k .mode) same) (ap (λ (k : pairs.Fragment). k .entry) same) (ap (λ (k : pairs.Fragment). k .index) same) (cc)
+  where
+    same : fragmentOf m e i ≡ fragmentOf n f j
+    same = cc
+
+    all : m ≡ n → e ≡ f → i ≡ j → p ≡ q → Fragment m e i p ≡ Fragment n f j q
+    all w x y z = rw (w, x, y, z)
+one-fragment (Fragment m e i p) (NoFragment s q) h = absurd (let z : _≡_ {A = ℕ} 0 1 = cc in omega arith)
+one-fragment (NoFragment r p) (Fragment n f j q) h = absurd (let z : _≡_ {A = ℕ} 0 1 = cc in omega arith)
+one-fragment (NoFragment r p) (NoFragment s q) h =
+    let a : r ≡ s = cc in
+    let b : p ≡ q = cc in
+    rw (a, b)

@@ -11,7 +11,7 @@ use numbers::Num;
 use scan::Kind;
 
 // A fragment and the place behind it, or why and where it came to a halt.
-pub(crate) enum FragmentAt {
+pub enum FragmentAt {
     Fragment {
         mode: u32,
         entry: u32,
@@ -52,7 +52,7 @@ pub fn next_index(t: &[u8], at: usize, radix: u8, big: bool) -> Num
 }
 
 // Mode, entry and index, each behind blanks.
-fn fragment_at(t: &[u8], at: usize, radix: u8, big: bool) -> FragmentAt
+pub fn fragment_at(t: &[u8], at: usize, radix: u8, big: bool) -> FragmentAt
     ensures { λ r. ⌜ toldFragment r ≡ fragment radix big (now (t .entry)) at ⌝ }
 {
     let a = scan::past_kind(t, at, Kind::Blank);

@@ -3,6 +3,8 @@
 mod fragments;
 mod modes;
 
+pub use fragments::FragmentAt;
+pub use fragments::fragment_at;
 pub use fragments::next_index;
 pub use fragments::parse_reloc_frag;
 pub use modes::parse_extended_mode;

@@ -6,6 +6,7 @@ mod usual;
 
 pub use content::parse_content;
 pub use content::whole_content;
+pub use relocations::area_part;
 pub use relocations::parse_reloc_line;
 
 // A T line with the count of its content bytes, or its halt.

@@ -31,7 +31,7 @@ fn zero_index(t: &[u8], at: usize, radix: u8, big: bool) -> Num
 }
 
 // R, index 0, the area's index. The usual form is read at once.
-fn area_part(t: &[u8], form: Form) -> Num
+pub fn area_part(t: &[u8], form: Form) -> Num
     ensures { λ r. ⌜ told r ≡ areaPart (formOf form) (now (t .entry)) 0 ⌝ }
 {
     if usual_zero(t, form.radix) {

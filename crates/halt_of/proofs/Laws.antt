@@ -1,0 +1,5 @@
+-- What the proofs share, by module of the code.
+-- Assumes nothing.
+pub mod GroupOne
+pub mod GroupTwo
+pub mod Stop
