@@ -1,65 +1,37 @@
-// Classes of modes by their bits, what a mode gives and leaves on site, and whether a lent table has the classes of some modes.
+// What a mode gives and leaves on site, and whether a lent table has the classes of some modes.
 use cells::at;
 use cells::byte_at;
 use class_rows::get_onsite_size;
 use class_rows::gives;
 use mode::JumpType;
+use mode::class_of;
 ghost use mathlib.Core.Path.{_≡_};
 ghost use Prim.Native.Nat.{_%_};
 ghost use lib.Dec.{eqb};
 ghost use lib.ListN.{getD};
 ghost use Rattle.format.specs.Mode as paper;
-ghost use Rattle.format.specs.Mode.{classNumberOf, classOf, onSite};
-ghost use Rattle.mode.specs.Class.{toldClass};
+ghost use Rattle.format.specs.Mode.{classNumberOf, onSite};
 ghost use Rattle.classes.specs.Named.{names};
-
-// The class that the bits 0, 3, 7 and 8 of a mode decide.
-fn class_by_bits(mode: u32) -> JumpType
-    ensures { λ r. ⌜ toldClass r ≡ classOf mode ⌝ }
-{
-    if mode % 2 == 1 {
-        if mode / 8 % 2 == 1 {
-            return JumpType::Other;
-        }
-        if mode / 256 % 2 == 1 {
-            return JumpType::Other;
-        }
-        return JumpType::Byte;
-    }
-    if mode / 8 % 2 == 1 {
-        if mode / 128 % 2 == 1 {
-            return JumpType::Addr19;
-        }
-        return JumpType::Addr11;
-    }
-    if mode / 128 % 2 == 1 {
-        return JumpType::Addr24;
-    }
-    if mode / 256 % 2 == 1 {
-        return JumpType::Other;
-    }
-    JumpType::Addr16
-}
 
 // Whether a mode can give a fixup.
 pub fn gives_fixup(mode: u32) -> bool
     ensures { λ r. ⌜ r ≡ paper.gives mode ⌝ }
 {
-    gives(class_by_bits(mode), mode)
+    gives(class_of(mode), mode)
 }
 
 // How many bytes of a mode stand on site.
 pub fn size_on_site(mode: u32) -> u32
     ensures { λ r. ⌜ r ≡ onSite mode ⌝ }
 {
-    get_onsite_size(class_by_bits(mode)) as u32
+    get_onsite_size(class_of(mode)) as u32
 }
 
 // The number that the class of a mode has in a table.
 fn class_number(mode: u32) -> u8
     ensures { λ r. ⌜ r ≡ classNumberOf mode ⌝ }
 {
-    let class = class_by_bits(mode);
+    let class = class_of(mode);
     match class {
         JumpType::Addr19 => 0,
         JumpType::Addr11 => 1,

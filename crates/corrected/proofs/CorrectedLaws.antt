@@ -1,8 +1,8 @@
--- The corrected target: the class by bits, the steps one after the other, and what is refused.
+-- The corrected target: the steps one after the other, and what is refused.
 -- Assumes nothing.
 use Prim.Native.Nat.{ℕ, _/_}
 use mathlib.Core.Path.{_≡_, refl, sym, ap, _∙_}
-use mathlib.Core.Bool.{Bool, false, not, true, _||_}
+use mathlib.Core.Bool.{Bool, false, not, true}
 use mathlib.Core.List.{List, [], _∷_}
 use denote.Enum.Declared.{tagOf}
 use types.Run.{OneOf, miss}
@@ -22,16 +22,6 @@ use Rattle.class_rows.specs.Row.{rowOf}
 use Rattle.mode.proofs.class.JumpType.{the-type}
 use Rattle.target_parts.specs.Parts.{allowed, startBy}
 use Rattle.corrected.specs.Corrected.{aheadOf, leadsTo}
-
--- the class by bits
-module _ (m : ℕ) {c : Class} {b₀ b₃ b₈ : Bool} (e₀ : b₀ ≡ bit 0 m) (e₃ : b₃ ≡ bit 3 m) (e₈ : b₈ ≡ bit 8 m) where
-  pub byte-is : b₀ ≡ true → c ≡ pick (b₃ || b₈) the.Other the.Byte → c ≡ classOf m
-  unfolding classOf
-  byte-is f e = rw (← e₀, f, ← e₃, ← e₈) e
-
-  pub word-is : {b₇ : Bool} → b₇ ≡ bit 7 m → b₀ ≡ false → c ≡ pick b₃ (pick b₇ the.Addr19 the.Addr11) (pick b₇ the.Addr24 (pick b₈ the.Other the.Addr16)) → c ≡ classOf m
-  unfolding classOf
-  word-is e₇ f e = rw (← e₀, f, ← e₃, ← e₇, ← e₈) e
 
 -- the sign bit of the start
 others : (c : JumpType) → OneOf (0 ∷ 2 ∷ 3 ∷ 4 ∷ 5 ∷ []) (tagOf the-type c) → rowOf (toldClass c) .high ≡ correctedHigh (toldClass c)
@@ -107,7 +97,5 @@ module _ (big : Bool) (m n : ℕ) (bs : List ℕ) (a : ℕ) {c : Class} (ec : c 
 
   pub corrected-at : {r : ℕ} → b ≡ true → r ≡ leadsTo c big m n bs a → fine r ≡ corrected big m n bs a
   corrected-at f er = rw (its-test, ← ec, ← e, f) (ap fine ((rw ec at er) ∙ its-leading big m n bs a))
-
-pub ruleset by-bits = (needs, byte-is, word-is)
 
 pub ruleset correcting = (needs, high-plain, high-addr19, ahead-next, ahead-block, leads, corrected-refuses, corrected-at)

@@ -1,5 +1,4 @@
 // The corrected target, which agrees with the processor, or refusal 14.
-use crate::class::class_by_bits;
 use mode::JumpType;
 use target_parts::Answer;
 use target_parts::add64;
@@ -61,7 +60,7 @@ fn leads_to(class: JumpType, mode: u32, big: bool, number: u32, address: u64, by
 pub fn corrected_target(mode: u32, big: bool, number: u32, address: u64, bytes: &[u8]) -> Answer
     ensures { λ r. ⌜ told r ≡ defs.corrected big mode number (now (bytes .entry)) address ⌝ }
 {
-    let class = class_by_bits(mode);
+    let class = mode::class_of(mode);
     if is_allowed(class, mode, number, bytes.len()) {
         Answer::At(leads_to(class, mode, big, number, address, bytes))
     } else {

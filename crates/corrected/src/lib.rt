@@ -1,5 +1,4 @@
 // The corrected target of a fixup, which agrees with the processor.
-mod class;
 mod corrected;
 
 pub use corrected::corrected_target;

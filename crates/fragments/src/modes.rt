@@ -10,7 +10,7 @@ fn long_mode(high: u32, low: u32) -> u32
     requires { ⌜ (high < 256) × (low < 256) ⌝ }
     ensures { λ r. ⌜ r ≡ (high * 256 + low) % 4096 ⌝ }
 {
-    (high * 256 + low) % 4096
+    ((high << 8) + low) % 4096
 }
 
 // One byte below F0, or two.

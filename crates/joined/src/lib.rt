@@ -1,6 +1,6 @@
 // Numbers that stand as two, three or four bytes: addresses and indexes, in both orders.
 ghost use mathlib.Core.Path.{_≡_};
-ghost use Prim.Native.Nat.{_*_, _<_, _≤_};
+ghost use Prim.Native.Nat.{_*_, _<_, _≤_, _^_};
 ghost use Rattle.format.specs.Number.{joined as joinedAt};
 ghost use Rattle.format.specs.Pairs.{index};
 ghost use Rattle.numbers.specs.Told.{told};
@@ -13,12 +13,28 @@ use numbers::Num;
 
 mod short;
 
-// One byte joined behind a value; scale is its worth where the lowest is first.
-pub(crate) fn join_step(big: bool, v: u64, scale: u64, b: u64) -> u64
-    requires { ⌜ (v < scale) × (scale ≤ 16777216) × (b < 256) ⌝ }
-    ensures { λ r. ⌜ (r ≡ joinStep big v scale b) × (r < scale * 256) ⌝ }
+// A byte moved up by one, two or three whole bytes.
+fn moved(b: u64, places: u64) -> u64
+    requires { ⌜ (b < 256) × (1 ≤ places) × (places ≤ 3) ⌝ }
+    ensures { λ r. ⌜ r ≡ 256 ^ places * b ⌝ }
 {
-    if big { v * 256 + b } else { v + scale * b }
+    match places {
+        1 => b << 8,
+        2 => b << 16,
+        _ => b << 24,
+    }
+}
+
+// One byte joined to a value of so many bytes, below them or, where the lowest is first, above them.
+pub(crate) fn join_step(big: bool, v: u64, places: u64, b: u64) -> u64
+    requires { ⌜ (v < 256 ^ places) × (1 ≤ places) × (places ≤ 3) × (b < 256) ⌝ }
+    ensures { λ r. ⌜ (r ≡ joinStep big v (256 ^ places) b) × (r < 256 ^ places * 256) ⌝ }
+{
+    if big {
+        (v << 8) + b
+    } else {
+        v + moved(b, places)
+    }
 }
 
 // n + 1 bytes separated by blanks, joined into one number.
@@ -31,7 +47,7 @@ fn joined_of(t: &[u8], at: usize, radix: u8, big: bool, n: usize) -> Num
         return first;
     };
     let mut v = value as u64;
-    let mut scale: u64 = 256;
+    let mut places: u64 = 1;
     let mut p = next;
     let mut k = n;
     while 0 < k {
@@ -39,8 +55,8 @@ fn joined_of(t: &[u8], at: usize, radix: u8, big: bool, n: usize) -> Num
         let Num::Is { value: d, next: q } = b else {
             return b;
         };
-        v = join_step(big, v, scale, d as u64);
-        scale = scale * 256;
+        v = join_step(big, v, places, d as u64);
+        places += 1;
         p = q;
         k -= 1;
     }

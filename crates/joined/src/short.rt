@@ -44,7 +44,7 @@ pub(crate) fn short_two(t: &[u8], at: usize, radix: u8, big: bool) -> u64
     if 48 <= scan::byte_at(t, at + 5) {
         return 65536;
     }
-    join_step(big, a, 256, b)
+    join_step(big, a, 1, b)
 }
 
 // Three bytes as one number, or 2^24 where anything else stands there.
@@ -81,6 +81,6 @@ pub(crate) fn short_three(t: &[u8], at: usize, radix: u8, big: bool) -> u64
     if 48 <= scan::byte_at(t, at + 8) {
         return 16777216;
     }
-    let v = join_step(big, a, 256, b);
-    join_step(big, v, 65536, c)
+    let v = join_step(big, a, 1, b);
+    join_step(big, v, 2, c)
 }

@@ -1,6 +1,6 @@
 -- Bytes joined by their places are the definition's `join` of a list.
 -- Assumes nothing.
-use Prim.Native.Nat.{ℕ, zero, suc, min, _*_, _+_, _-_, _<_, _≤_, _^_}
+use Prim.Native.Nat.{ℕ, zero, suc, min, _%_, _*_, _+_, _-_, _<_, _≤_, _^_}
 use mathlib.Core.Path.{_≡_, refl, ap, _∙_}
 use mathlib.Core.Bool.{Bool, false, true}
 use mathlib.Core.List.{List, [], _∷_}
@@ -9,12 +9,13 @@ use native.Mathlib.Numerals.{add-one, unary-clauses}
 use native.Mathlib.Omega.{arith}
 use mir.Syntax.{w32}
 use mir.Val.{Fits}
-use lib.Dec.{lit<}
+use lib.Dec.{lit<, lit≤}
 use lib.ListN.{getD, length, take}
 use borrow.Author.Needs.{needs}
 use Rattle.format.specs.Lists.{pick}
 use Rattle.format.specs.Number as the
 use Rattle.format.specs.Number.{join}
+use Rattle.joining.proofs.Shift.{moved-up}
 
 -- the number whose digits to the base 256 are f 0, f 1, .., f (k - 1), the first the highest
 abbrev pub horner : (ℕ → ℕ) → ℕ → ℕ
@@ -40,19 +41,19 @@ module _ {big : Bool} {xs : List ℕ} {k v i : ℕ} (j : Joining big xs k v i) w
   below : i < k → v < 2 ^ 24
   below h = let three : i ≤ 3 = omega arith in omega (arith, pow-le-pow-right {n = 256} (lit< tt) three)
 
-  pub times-fits : i < k → Fits w32 (v * 256)
-  times-fits h = record { fits = omega (arith, below h) }
+  moved : i < k → v * 256 % 4294967296 ≡ v * 256
+  moved h = moved-up 32 8 (lit≤ tt) (below h)
 
-  pub sum-fits : {w : ℕ} → i < k → w < 256 → Fits w32 (v * 256 + w)
-  sum-fits h b = record { fits = omega (arith, below h) }
+  pub sum-fits : {w : ℕ} → i < k → w < 256 → Fits w32 (v * 256 % 4294967296 + w)
+  sum-fits h b = record { fits = omega (arith, below h, moved h) }
 
-  pub joins-one-more : {at w : ℕ} → i < k → at ≡ pick big i (k - 1 - i) → w ≡ getD xs at 0 → w < 256 → Joining big xs k (v * 256 + w) (i + 1)
+  pub joins-one-more : {at w : ℕ} → i < k → at ≡ pick big i (k - 1 - i) → w ≡ getD xs at 0 → w < 256 → Joining big xs k (v * 256 % 4294967296 + w) (i + 1)
   joins-one-more h e f b = record {
     room = j .room;
     four = j .four;
     within = omega arith;
-    number = rw add-one (cc);
-    small = rw (add-one, pow-suc) (omega arith);
+    number = rw (add-one, moved h) (cc);
+    small = rw (add-one, pow-suc, moved h) (omega arith);
   }
 
 -- digits from the highest on, and a list
@@ -104,4 +105,4 @@ joins-all n {big} {xs} {k} {v} {i} j h e =
     let all : i ≡ k = omega arith in
     (rw all at (j .number)) ∙ (join-is big k xs (j .four) (j .room) ∙ (ap (λ (z : ℕ). join big (take z xs)) e ∙ ap (join big) (take-min (min n 4) xs)))
 
-pub ruleset joining = (needs, joins-none, times-fits, sum-fits, joins-one-more, joins-all)
+pub ruleset joining = (needs, joins-none, sum-fits, joins-one-more, joins-all)

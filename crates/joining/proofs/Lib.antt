@@ -1,1 +1,2 @@
+pub mod Shift
 pub mod JoinLaws

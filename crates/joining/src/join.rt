@@ -40,7 +40,7 @@ pub fn endian_to_number(big: bool, part: &[u8], n: usize) -> u32
     let mut i: usize = 0;
     while i < k {
         let at = place(big, k, i);
-        number = number * 256 + wide(part[at]);
+        number = (number << 8) + wide(part[at]);
         i += 1;
     }
     number

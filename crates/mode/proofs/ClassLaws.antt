@@ -73,16 +73,12 @@ pub table-names : (m : ℕ) → classNamed (getD classTable (m % 2048) 0) ≡ cl
 unfolding classTable classNumberOf
 table-names m = ap classNamed (entry classNumberOf 2048 (m % 2048) (omega arith)) ∙ (names-itself (classOf (m % 2048)) ∙ class-of-low-bits m)
 
--- what `class_in` answers where the table is lent
-pub class-of-table : (m : ℕ) {t : List ℕ} {r : Class} → t ≡ classTable → r ≡ classNamed (getD t (m % 2048) 0) → r ≡ classOf m
-class-of-table m e p = (rw e at p) ∙ table-names m
-
 pub over-is-none : {m : ℕ} → 2048 ≤ m → none ≡ jumpOf m
 unfolding jumpOf
 over-is-none {m} h = simp (le-ltb m 2048 h)
 
-pub class-is-some : {m : ℕ} {t : List ℕ} {r : Class} → m < 2048 → t ≡ classTable → r ≡ classNamed (getD t (m % 2048) 0) → some r ≡ jumpOf m
+pub class-is-some : {m : ℕ} {r : Class} → m < 2048 → r ≡ classOf m → some r ≡ jumpOf m
 unfolding jumpOf
-class-is-some {m} h e p = simp (lt-ltb m 2048 h) (ap some (class-of-table m e p))
+class-is-some {m} h e = simp (lt-ltb m 2048 h) (ap some e)
 
 pub ruleset classes = (needs, names-addr19, names-addr11, names-addr24, names-addr16, names-byte, names-other, over-is-none, class-is-some)

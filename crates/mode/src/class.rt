@@ -1,4 +1,5 @@
-// The class of a mode: four of its bits decide, and a table of all 2,048 modes has the answer.
+// The class of a mode as a table of all 2,048 modes has it, and of one mode by its bits.
+use crate::bits::class_of;
 use crate::classes::CLASSES;
 ghost use mathlib.Core.Path.{_≡_};
 ghost use Prim.Native.Nat.{_%_};
@@ -57,6 +58,5 @@ pub fn get_jump_type(mode: u16) -> Jump
     if 2048 <= mode {
         return Jump::Over;
     }
-    let table = class_table();
-    Jump::Of(class_in(&table, mode as u32))
+    Jump::Of(class_of(mode as u32))
 }

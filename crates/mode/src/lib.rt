@@ -1,7 +1,9 @@
 // Modes: the class of each.
+mod bits;
 mod class;
 mod classes;
 
+pub use bits::class_of;
 pub use class::Jump;
 pub use class::JumpType;
 pub use class::class_in;

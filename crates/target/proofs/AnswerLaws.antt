@@ -1,6 +1,6 @@
--- The target whole: its number's sign, what the address takes off, the steps one after the other, what is refused, and the class out of the table.
+-- The target whole: its number's sign, what the address takes off, the steps one after the other, what is refused, and the class.
 -- Assumes nothing.
-use Prim.Native.Nat.{ℕ, _%_, _*_, _/_, _≤_}
+use Prim.Native.Nat.{ℕ, _%_, _*_, _/_, _<_, _≤_}
 use mathlib.Core.Path.{_≡_, refl, ap, _∙_}
 use mathlib.Core.Bool.{Bool, false, not, true}
 use mathlib.Core.List.{List}
@@ -9,7 +9,7 @@ use lib.Dec.{lit≤}
 use lib.ListN.{getD, length}
 use borrow.Author.Needs.{needs}
 use Rattle.format.specs.Lists.{pick}
-use Rattle.format.specs.Mode.{Addr11, Addr16, Addr19, Addr24, Byte, Class, Other, bit, onSite}
+use Rattle.format.specs.Mode.{Addr11, Addr16, Addr19, Addr24, Byte, Class, Other, bit, classOf, onSite}
 use Rattle.format.specs.Outcome.{Outcome, fine, refused}
 use Rattle.format.specs.Target.{closing, high, inBlock, near, numberBit, signedNumber, signedStart, startOf, target, targetOf, twoShifted, wrapAdd, wrapSub}
 use Rattle.mode.specs.declared.class.JumpType.{JumpType}
@@ -76,11 +76,12 @@ module _ (c : Class) (big : Bool) (m n : ℕ) (bs : List ℕ) (a : ℕ) where
   steps eg e₄ e₈ eh es es′ ew en ed et e = cc
 
   pub reaches : {row : Row} {b₄ b₈ : Bool} {h o s s′ w n′ d t r : ℕ}
-      → row ≡ rowOf c → b₄ ≡ bit 4 m → b₈ ≡ bit 8 m → h ≡ numberBit c b₈ → o ≡ getD bs 0 0 → s ≡ startBy (o / 32 * 32) c big bs → s′ ≡ signedStart (not b₄) (row .high) s
+      → row ≡ rowOf c → b₄ ≡ bit 4 m → b₈ ≡ bit 8 m → h ≡ numberBit c b₈ → o ≡ getD bs 0 0 → o < 256 → s ≡ startBy (o / 32 * 32 % 256) c big bs → s′ ≡ signedStart (not b₄) (row .high) s
       → w ≡ n → n′ ≡ signedNumber (not b₄) h w → d ≡ wrapSub s′ n′ → t ≡ relativeOf c m d a → r ≡ near (closing c) t a
       → r ≡ reachedBy c big m n bs a
-  reaches er e₄ e₈ eh eo es =
-      steps (ap (λ (r : Row). r .high) er) e₄ e₈ eh (es ∙ (rw eo (ported-start c big bs)))
+  reaches {o = o} er e₄ e₈ eh eo l es =
+      let top : o / 32 * 32 % 256 ≡ o / 32 * 32 = omega arith in
+      steps (ap (λ (r : Row). r .high) er) e₄ e₈ eh (es ∙ (rw (top, eo) (ported-start c big bs)))
 
   -- 14, or the target
   pub refuses : {o : Outcome ℕ} {b : Bool} → b ≡ allowed c m n (length bs) → b ≡ false → o ≡ refused 14 0 → o ≡ targetBy c big m n bs a
@@ -91,7 +92,7 @@ module _ (c : Class) (big : Bool) (m n : ℕ) (bs : List ℕ) (a : ℕ) where
   unfolding targetBy
   target-at e f er = rw (← e, f) (ap fine er)
 
--- the class out of a table
+-- the class out of a table, or by the mode's bits
 module _ (big : Bool) (m n : ℕ) (bs : List ℕ) (a : ℕ) where
   pub by-table : {c d : Class} {o : Outcome ℕ} → o ≡ targetBy c big m n bs a → c ≡ d → o ≡ targetBy d big m n bs a
   by-table e f = rw f at e
@@ -100,6 +101,10 @@ module _ (big : Bool) (m n : ℕ) (bs : List ℕ) (a : ℕ) where
   unfolding target targetOf targetBy allowed reachedBy relativeOf onSite
   by-the-table e f = (rw (e, table-names m) at f) ∙ refl
 
+  pub by-bits : {c : Class} {o : Outcome ℕ} → c ≡ classOf m → o ≡ targetBy c big m n bs a → o ≡ target big m n bs a
+  unfolding target targetOf targetBy allowed reachedBy relativeOf onSite
+  by-bits e f = (rw e at f) ∙ refl
+
 pub ruleset signing = (needs, number-unsigned, number-clear, number-set, relative-back, relative-block)
 
-pub ruleset targets = (needs, tested-small, reaches, refuses, target-at, by-table, by-the-table)
+pub ruleset targets = (needs, tested-small, reaches, refuses, target-at, by-table, by-bits)

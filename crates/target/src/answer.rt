@@ -28,7 +28,7 @@ fn reached(class: JumpType, mode: u32, big: bool, number: u32, address: u64, byt
     let row = class_rows::row_of(class);
     let signed = !has(mode, 4);
     let tested = number_bit(class, has(mode, 8));
-    let opcode = byte_at(bytes, 0) / 32 * 32;
+    let opcode = (byte_at(bytes, 0) / 32) << 5;
     let s = signed_start(signed, row.high, start(class, big, opcode, bytes));
     let n = signed_number(signed, tested, wide(number));
     let t = relative(class, mode, sub64(s, n), address);
@@ -72,6 +72,6 @@ pub fn target_in(
 pub fn target(mode: u32, big: bool, number: u32, address: u64, bytes: &[u8]) -> Answer
     ensures { λ r. ⌜ told r ≡ defs.target big mode number (now (bytes .entry)) address ⌝ }
 {
-    let table = mode::class_table();
-    target_in(&table, mode, big, number, address, bytes)
+    let class = mode::class_of(mode);
+    target_by(class, mode, big, number, address, bytes)
 }

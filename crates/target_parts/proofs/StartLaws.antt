@@ -21,6 +21,7 @@ use Rattle.format.specs.Number.{horner, join, little}
 use Rattle.format.specs.Mode as the
 use Rattle.format.specs.Mode.{Class, bit}
 use Rattle.format.specs.Target.{block, closing, inBlock, near, numberBit, signedStart, wrapAdd, wrapSub}
+use Rattle.joining.proofs.Shift.{moved-up}
 use Rattle.laws.proofs.Parts.{part-end}
 use Rattle.mode.specs.declared.class.JumpType.{JumpType}
 use Rattle.mode.specs.declared.class.JumpType.the-variants.{Addr11, Addr16, Addr19, Addr24, Byte, Other}
@@ -45,11 +46,11 @@ some-after big bs ew ej = rw (ew, ej, part-end 1 bs)
 
 -- the start, class by class
 module _ {c : JumpType} (op : ℕ) (big : Bool) (bs : List ℕ) where
-  pub start-addr19 : {o w : ℕ} → c ≡ Addr19 → o ≡ op → w ≡ join big (take 2 (drop 1 bs)) → o * 65536 + w ≡ startBy op (toldClass c) big bs
-  start-addr19 e eo ew = rw (e, eo, ew)
+  pub start-addr19 : {o w : ℕ} → c ≡ Addr19 → o ≡ op → o < 256 → w ≡ join big (take 2 (drop 1 bs)) → o * 65536 % 2 ^ 64 + w ≡ startBy op (toldClass c) big bs
+  start-addr19 {o} e eo l ew = rw (moved-up 64 16 {x = o} (lit≤ tt) (omega arith), e, eo, ew)
 
-  pub start-addr11 : {o w b : ℕ} → c ≡ Addr11 → o ≡ op → w ≡ b → b ≡ getD bs 1 0 → o * 256 + w ≡ startBy op (toldClass c) big bs
-  start-addr11 e eo ew eb = rw (e, eo, ew, eb)
+  pub start-addr11 : {o w b : ℕ} → c ≡ Addr11 → o ≡ op → o < 256 → w ≡ b → b ≡ getD bs 1 0 → o * 256 % 2 ^ 64 + w ≡ startBy op (toldClass c) big bs
+  start-addr11 {o} e eo l ew eb = rw (moved-up 64 8 {x = o} (lit≤ tt) (omega arith), e, eo, ew, eb)
 
   pub start-addr24 : {w j : ℕ} → c ≡ Addr24 → w ≡ j → j ≡ join big (take (min 3 4) bs) → w ≡ startBy op (toldClass c) big bs
   start-addr24 e ew ej = rw (e, ew, ej)
@@ -143,13 +144,13 @@ pub tested-two : {c : JumpType} {three : Bool} {r : Row} → c ≡ Other → thr
 tested-two e f g = rw (g, e, f)
 
 -- the block
-pub block-addr19 : {c : JumpType} (t a : ℕ) {w : ℕ} → c ≡ Addr19 → w ≡ wrapAdd a 3 → t % 524288 + w / 524288 % 32 * 524288 ≡ inBlock (toldClass c) t a
+pub block-addr19 : {c : JumpType} (t a : ℕ) {w : ℕ} → c ≡ Addr19 → w ≡ wrapAdd a 3 → t % 524288 + w / 524288 % 32 * 524288 % 2 ^ 64 ≡ inBlock (toldClass c) t a
 unfolding block
-block-addr19 t a e ew = rw (e, ew)
+block-addr19 t a {w} e ew = rw (moved-up 64 19 {x = w / 524288 % 32} (lit≤ tt) (omega arith), e, ew)
 
-pub block-addr11 : {c : JumpType} (t a : ℕ) {w : ℕ} → c ≡ Addr11 → w ≡ wrapAdd a 2 → t % 2048 + w / 2048 % 32 * 2048 ≡ inBlock (toldClass c) t a
+pub block-addr11 : {c : JumpType} (t a : ℕ) {w : ℕ} → c ≡ Addr11 → w ≡ wrapAdd a 2 → t % 2048 + w / 2048 % 32 * 2048 % 2 ^ 64 ≡ inBlock (toldClass c) t a
 unfolding block
-block-addr11 t a e ew = rw (e, ew)
+block-addr11 t a {w} e ew = rw (moved-up 64 11 {x = w / 2048 % 32} (lit≤ tt) (omega arith), e, ew)
 
 pub block-none : (c : JumpType) (t a : ℕ) → OneOf (0 ∷ 2 ∷ 4 ∷ 5 ∷ []) (tagOf the-type c) → t ≡ inBlock (toldClass c) t a
 block-none Addr24 t a h = refl
@@ -174,34 +175,44 @@ closing-at-most the.Addr16 = lit≤ tt
 closing-at-most the.Byte = lit≤ tt
 closing-at-most the.Other = lit≤ tt
 
-module _ (c : Class) {row : Row} {p : ℕ} (er : row ≡ rowOf c) (e : p ≡ shiftedLeft 1 (row .closing)) where
-  power : p ≡ 2 ^ closing c
-  power = (rw er at e) ∙ one-by (closing c) (closing-at-most c)
+-- an address above its closing bits
+module _ (c : Class) (a : ℕ) (h : a < 2 ^ 64) where
+  whole : 2 ^ (64 - closing c) * 2 ^ closing c ≡ 2 ^ 64
+  whole = let sum : 64 - closing c + closing c ≡ 64 = omega (arith, closing-at-most c) in sym (pow-add 2 (64 - closing c) (closing c)) ∙ ap (λ (n : ℕ). 2 ^ n) sum
 
-  pub low-some : 0 < p
-  low-some = rw power (pow-pos (closing c))
+  blocks : a / 2 ^ closing c < 2 ^ (64 - closing c)
+  blocks = lt-of-mul-lt-mul-right (2 ^ closing c) (omega (arith, div-mul-le-self a (2 ^ closing c), whole))
 
-  pub near-is : (t a : ℕ) → t % p + a / p * p ≡ near (closing c) t a
-  unfolding near
-  near-is t a = rw power
+  last-block : a / 2 ^ closing c * 2 ^ closing c + 2 ^ closing c ≤ 2 ^ 64
+  last-block = omega (arith, mul-le-mul-right (2 ^ closing c) blocks, suc-mul (a / 2 ^ closing c) (2 ^ closing c), whole)
 
-  blocks : (a : ℕ) → a < 2 ^ 64 → a / p * p + p ≤ 2 ^ 64
-  blocks a h =
-      let k = closing c in
-      let sum : 64 - k + k ≡ 64 = omega (arith, closing-at-most c) in
-      let whole : 2 ^ (64 - k) * p ≡ 2 ^ 64 = rw power (sym (pow-add 2 (64 - k) k) ∙ ap (λ (n : ℕ). 2 ^ n) sum) in
-      let below : a / p * p < 2 ^ (64 - k) * p = omega (arith, div-mul-le-self a p, whole) in
-      let more = mul-le-mul-right p (lt-of-mul-lt-mul-right p below) in
-      omega (arith, more, suc-mul (a / p) p, whole)
+module _ (c : Class) {row : Row} (er : row ≡ rowOf c) where
+  module _ {p : ℕ} (e : p ≡ shiftedLeft 1 (row .closing)) where
+    power : p ≡ 2 ^ closing c
+    power = (rw er at e) ∙ one-by (closing c) (closing-at-most c)
 
-  pub product-fits : (a : ℕ) → a < 2 ^ 64 → Fits w64 (a / p * p)
-  product-fits a h = record { fits = omega (arith, div-mul-le-self a p) }
+    pub low-some : 0 < p
+    low-some = rw power (pow-pos (closing c))
 
-  pub near-fits : (t a : ℕ) → a < 2 ^ 64 → Fits w64 (t % p + a / p * p)
-  near-fits t a h = record { fits = omega (arith, blocks a h, mod-lt t low-some) }
+  module _ (t a : ℕ) (h : a < 2 ^ 64) {q r : ℕ} (eq : q ≡ shiftedRight a (row .closing)) (es : r ≡ shiftedLeft q (row .closing)) where
+    above-low : r ≡ a / 2 ^ closing c * 2 ^ closing c
+    unfolding shiftedLeft
+    above-low =
+        let l : closing c < 64 = omega (arith, closing-at-most c) in
+        let m : closing c % 64 ≡ closing c = omega arith in
+        let f : q ≡ a / 2 ^ closing c = (rw er at eq) ∙ right-by a (closing c) l in
+        (rw (er, f, m) at es) ∙ moved-up 64 (closing c) (omega arith) (blocks c a h)
+
+    module _ {p : ℕ} (e : p ≡ shiftedLeft 1 (row .closing)) where
+      pub near-is : t % p + r ≡ near (closing c) t a
+      unfolding near
+      near-is = rw (power e, above-low)
+
+      pub near-fits : Fits w64 (t % p + r)
+      near-fits = record { fits = omega (arith, last-block c a h, above-low, power e, mod-lt t (low-some e)) }
 
 pub ruleset starting = (needs, no-mode-bit, past-end, none-after, some-after, start-addr19, start-addr11, start-addr24, start-addr16, start-byte, start-other)
 
 pub ruleset signing = (needs, start-over, start-unsigned, start-clear, start-set, tested-plain, tested-three, tested-two)
 
-pub ruleset closings = (needs, block-addr19, block-addr11, block-none, back-one, back-two, low-some, product-fits, near-fits, near-is)
+pub ruleset closings = (needs, block-addr19, block-addr11, block-none, back-one, back-two, low-some, near-fits, near-is)

@@ -60,8 +60,8 @@ pub fn start(class: JumpType, big: bool, opcode: u8, bytes: &[u8]) -> u64
     ensures { λ r. ⌜ r ≡ startBy opcode (toldClass class) big (now (bytes .entry)) ⌝ }
 {
     match class {
-        JumpType::Addr19 => wide8(opcode) * 0x1_0000 + after_first(big, bytes),
-        JumpType::Addr11 => wide8(opcode) * 256 + wide8(byte_at(bytes, 1)),
+        JumpType::Addr19 => (wide8(opcode) << 16) + after_first(big, bytes),
+        JumpType::Addr11 => (wide8(opcode) << 8) + wide8(byte_at(bytes, 1)),
         JumpType::Addr24 => wide(joining::endian_to_number(big, bytes, 3)),
         JumpType::Addr16 => wide(joining::endian_to_number(big, bytes, 2)),
         JumpType::Byte => wide8(byte_at(bytes, 0)),
@@ -104,8 +104,8 @@ pub fn in_block(class: JumpType, t: u64, address: u64) -> u64
     ensures { λ r. ⌜ r ≡ defs.inBlock (toldClass class) t address ⌝ }
 {
     match class {
-        JumpType::Addr19 => t % 0x8_0000 + add64(address, 3) / 0x8_0000 % 32 * 0x8_0000,
-        JumpType::Addr11 => t % 0x800 + add64(address, 2) / 0x800 % 32 * 0x800,
+        JumpType::Addr19 => t % 0x8_0000 + ((add64(address, 3) / 0x8_0000 % 32) << 19),
+        JumpType::Addr11 => t % 0x800 + ((add64(address, 2) / 0x800 % 32) << 11),
         _ => t,
     }
 }
@@ -123,5 +123,6 @@ pub fn near(class: JumpType, t: u64, address: u64) -> u64
 {
     let row = class_rows::row_of(class);
     let low = shl64(1, row.closing);
-    t % low + address / low * low
+    let block = shr64(address, row.closing);
+    t % low + shl64(block, row.closing)
 }

@@ -3,10 +3,10 @@ use Rattle.classes.proofs.class_number.Statement.{statement}
 use Rattle.classes.proofs.class_number.Tie as tie
 use Rattle.classes.proofs.class_number.Reads as reads
 use Rattle.classes.proofs.class_number.Lts as lts
-use Rattle.classes.proofs.class_by_bits.Reads as class-by-bits-reads
+use Rattle.mode.proofs.class_of.Reads as class-of-reads
 
-class-by-bits-requires : tie.Need-class-by-bits-requires
-class-by-bits-requires c κs = search numbering
+class-of-requires : tie.Need-class-of-requires
+class-of-requires c κs = search numbering
 
 enum-told : tie.Need-enum-told
 enum-told c = search numbering
@@ -48,7 +48,7 @@ pub class-number-spec : {M : Type 1} → statement M
 class-number-spec =
     tie.close
     (tie.spec
-    class-by-bits-requires
+    class-of-requires
     enum-told
     enum-told-2
     enum-told-3

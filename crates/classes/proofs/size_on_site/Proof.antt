@@ -3,11 +3,11 @@ use Rattle.classes.proofs.size_on_site.Statement.{statement}
 use Rattle.classes.proofs.size_on_site.Tie as tie
 use Rattle.classes.proofs.size_on_site.Reads as reads
 use Rattle.classes.proofs.size_on_site.Lts as lts
-use Rattle.classes.proofs.class_by_bits.Reads as class-by-bits-reads
+use Rattle.mode.proofs.class_of.Reads as class-of-reads
 use Rattle.class_rows.proofs.get_onsite_size.Reads as get-onsite-size-reads
 
-class-by-bits-requires : tie.Need-class-by-bits-requires
-class-by-bits-requires c κs = search measuring
+class-of-requires : tie.Need-class-of-requires
+class-of-requires c κs = search measuring
 
 get-onsite-size-requires : tie.Need-get-onsite-size-requires
 get-onsite-size-requires c κs = search measuring
@@ -20,4 +20,4 @@ returns c = search measuring
 
 pub size-on-site-spec : {M : Type 1} → statement M
 size-on-site-spec =
-    tie.close (tie.spec class-by-bits-requires get-onsite-size-requires cast-result returns)
+    tie.close (tie.spec class-of-requires get-onsite-size-requires cast-result returns)

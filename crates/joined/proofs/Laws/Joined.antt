@@ -1,12 +1,13 @@
 -- Bytes joined into one number.
 -- Assumes nothing.
-use Prim.Native.Nat.{ℕ, suc, _+_, _*_, _-_, _<_, _≤_, _^_}
+use Prim.Native.Nat.{ℕ, suc, _%_, _+_, _*_, _-_, _<_, _≤_, _^_}
 use mathlib.Core.Path.{_≡_, refl, ap, sym, _∙_}
 use mathlib.Core.Bool.{Bool, true, false}
 use mathlib.Core.List.{List, [], _∷_}
 use native.Mathlib.Omega.{arith}
-use native.Mathlib.Nat.{mul-le-mul-left, mul-le-mul, mul-assoc, zero-mul, zero-add, pow-le-pow-right, pow-succ', le-refl}
-use lib.Dec.{lit<}
+use native.Mathlib.Nat.{mul-le-mul-left, mul-assoc, zero-mul, zero-add, pow-le-pow-right, pow-suc, pow-succ'}
+use native.Mathlib.Numerals.{add-one}
+use lib.Dec.{lit<, lit≤}
 use borrow.Author.Needs.{needs}
 use mir.Val.{Fits}
 use mir.Syntax.{w32, w64}
@@ -17,6 +18,7 @@ use Rattle.numbers.specs.Told.{told}
 use Rattle.joined.specs.Steps.{joinOn, joinStep}
 use Rattle.numbers.specs.declared.Num.{Num}
 use Rattle.numbers.specs.declared.Num.the-variants.{Is, No}
+use Rattle.joining.proofs.Shift.{moved-up}
 use Rattle.numbers.proofs.Laws.Numbers.{byte-below, next-below}
 
 -- `joined_of`: v is joined, and k more bytes follow from p on
@@ -52,9 +54,6 @@ fuse-more : (big : Bool) (v scale b : ℕ) (m : Got (List ℕ))
 fuse-more big v scale b (is bs e) = rw (join-more big v scale b bs)
 fuse-more big v scale b (isnt r p) = refl
 
-pow-pos : (k : ℕ) → 1 ≤ 256 ^ k
-pow-pos k = let h : 0 ≤ k = omega arith in pow-le-pow-right {n = 256} (lit< tt) h
-
 pub joined-none : (radix : ℕ) (big : Bool) (n : ℕ) (s : List ℕ) (at : ℕ) {a : Num} {r p : ℕ} → told a ≡ byte radix s at → a ≡ No r p → told a ≡ joined radix big n s at
 unfolding joined bytesOf
 joined-none radix big n s at e g = rw (← e, g)
@@ -83,12 +82,6 @@ module _ {radix : ℕ} {big : Bool} {n : ℕ} {s : List ℕ} {at v scale p k : �
     room-more : scale * 256 * 256 ^ (k - 1) ≤ 4294967296
     room-more = let e : 256 ^ k ≡ 256 * 256 ^ (k - 1) = ap (λ (x : ℕ). 256 ^ x) next ∙ pow-succ' 256 (k - 1) in rw mul-assoc (rw e at (w .room))
 
-    pub scale-low : scale ≤ 16777216
-    scale-low = omega (arith, room-more, mul-le-mul (le-refl (scale * 256)) (pow-pos (k - 1)))
-
-    pub scale-fits : Fits w64 (scale * 256)
-    scale-fits = record { fits = omega (arith, scale-low) }
-
     module _ {b : Num} (e : told b ≡ nextByte radix s p) where
       pub joined-stop : {r x : ℕ} → b ≡ No r x → told b ≡ joined radix big n s at
       unfolding moreBytes
@@ -102,32 +95,83 @@ module _ {radix : ℕ} {big : Bool} {n : ℕ} {s : List ℕ} {at v scale p k : �
         room = room-more;
       }
 
+-- `joined_of`: v is joined of so many bytes
+pub record Placing (radix : ℕ) (big : Bool) (n : ℕ) (s : List ℕ) (at v places p k : ℕ) : Type 0 where
+  pub joins : Joining radix big n s at v (256 ^ places) p k
+  pub some : 1 ≤ places
+  pub four : places + k ≤ 4
+
+pub placing-start : (radix : ℕ) (big : Bool) (s : List ℕ) (at : ℕ) {n : ℕ} {a : Num} {b p : ℕ}
+    → told a ≡ byte radix s at → a ≡ Is b p → n ≤ 3 → Placing radix big n s at b 1 p n
+placing-start radix big s at e g h = record { joins = joined-start radix big s at e g h; some = omega arith; four = omega arith }
+
+module _ {radix : ℕ} {big : Bool} {n : ℕ} {s : List ℕ} {at v places p k : ℕ} (w : Placing radix big n s at v places p k) where
+  pub placing-end : k ≤ 0 → is v p ≡ joined radix big n s at
+  placing-end = joined-end (w .joins)
+
+  pub placing-fits : k ≤ 0 → Fits w32 v
+  placing-fits = joined-fits (w .joins)
+
+  pub placing-small : v < 256 ^ places
+  placing-small = w .joins .small
+
+  module _ (h : 0 < k) {b : Num} (e : told b ≡ nextByte radix s p) where
+    pub placing-stop : {r x : ℕ} → b ≡ No r x → told b ≡ joined radix big n s at
+    placing-stop = joined-stop (w .joins) h e
+
+    pub placing-more : {d q : ℕ} → b ≡ Is d q → {v' : ℕ} → v' ≡ joinStep big v (256 ^ places) d → v' < 256 ^ places * 256
+        → Placing radix big n s at v' (places + 1) q (k - 1)
+    placing-more g f l = record {
+      joins = rw (add-one, pow-suc) (joined-more (w .joins) h e g f l);
+      some = omega arith;
+      four = omega (arith, w .four);
+    }
+
+-- `moved`: whole bytes up
+module _ {b places : ℕ} (l : b < 256) where
+  pub moved-1 : places ≡ 1 → b * 256 % 2 ^ 64 ≡ 256 ^ places * b
+  moved-1 e = moved-up 64 8 (lit≤ tt) (omega arith) ∙ (rw e (omega arith))
+
+  pub moved-2 : places ≡ 2 → b * 65536 % 2 ^ 64 ≡ 256 ^ places * b
+  moved-2 e = moved-up 64 16 (lit≤ tt) (omega arith) ∙ (rw e (omega arith))
+
+  pub moved-3 : (places ≡ 1 → ⊥) → (places ≡ 2 → ⊥) → 1 ≤ places → places ≤ 3 → b * 16777216 % 2 ^ 64 ≡ 256 ^ places * b
+  moved-3 f g h k =
+      let e : places ≡ 3 = omega arith in
+      moved-up 64 24 (lit≤ tt) (omega arith) ∙ (rw e (omega arith))
+
 -- `join_step`
-module _ (v scale b : ℕ) (h : v < scale) (k : scale ≤ 16777216) (l : b < 256) where
-  scaled : scale * b ≤ scale * 255
-  scaled = let m : b ≤ 255 = omega arith in mul-le-mul-left scale m
+module _ (v places b : ℕ) (h : v < 256 ^ places) (k : places ≤ 3) (l : b < 256) where
+  low : 256 ^ places ≤ 16777216
+  low = pow-le-pow-right {n = 256} (lit< tt) k
 
-  pub step-mul : Fits w64 (scale * b)
-  step-mul = record { fits = omega (arith, scaled) }
+  up : v * 256 % 2 ^ 64 ≡ v * 256
+  up = moved-up 64 8 (lit≤ tt) (omega (arith, low))
 
-  pub step-add : Fits w64 (v + scale * b)
-  step-add = record { fits = omega (arith, scaled) }
+  scaled : 256 ^ places * b ≤ 256 ^ places * 255
+  scaled = let m : b ≤ 255 = omega arith in mul-le-mul-left (256 ^ places) m
+
+  pub step-add : {m : ℕ} → m ≡ 256 ^ places * b → Fits w64 (v + m)
+  step-add e = record { fits = omega (arith, scaled, low) }
 
   module _ {big : Bool} where
-    pub step-big : big ≡ true → v * 256 + b ≡ joinStep big v scale b
+    pub step-big : big ≡ true → v * 256 % 2 ^ 64 + b ≡ joinStep big v (256 ^ places) b
     unfolding joinStep
-    step-big e = rw e
+    step-big e = rw (e, up)
 
-    pub step-little : big ≡ false → v + scale * b ≡ joinStep big v scale b
+    pub step-little : {m : ℕ} → big ≡ false → m ≡ 256 ^ places * b → v + m ≡ joinStep big v (256 ^ places) b
     unfolding joinStep
-    step-little e = rw e
+    step-little e f = rw (e, f)
 
-  pub step-low : v + scale * b < scale * 256
-  step-low = omega (arith, scaled)
+  pub step-below : v * 256 % 2 ^ 64 + b < 256 ^ places * 256
+  step-below = omega (arith, up)
 
-pub ruleset stepping = (needs, step-mul, step-add, step-big, step-little, step-low)
+  pub step-above : {m : ℕ} → m ≡ 256 ^ places * b → v + m < 256 ^ places * 256
+  step-above e = omega (arith, scaled)
 
-pub ruleset joining = (needs, byte-below, next-below, joined-none, joined-start, joined-end, joined-fits, scale-low, scale-fits, joined-stop, joined-more)
+pub ruleset stepping = (needs, moved-1, moved-2, moved-3, step-add, step-big, step-little, step-below, step-above)
+
+pub ruleset joining = (needs, byte-below, next-below, joined-none, placing-start, placing-end, placing-fits, placing-small, placing-stop, placing-more)
 
 pub index-is : (radix : ℕ) (big : Bool) (s : List ℕ) (at : ℕ) {r : Got ℕ} → r ≡ joined radix big 1 s at → r ≡ index radix big s at
 unfolding index

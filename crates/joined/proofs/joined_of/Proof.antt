@@ -1,12 +1,18 @@
-use Rattle.joined.proofs.Laws.Joined.{joining, Joining}
+use Rattle.joined.proofs.Laws.Joined.{joining}
+use Rattle.joined.proofs.Laws.Joined.{Placing}
 use Rattle.joined.proofs.joined_of.Statement.{statement}
 use Rattle.joined.proofs.joined_of.Tie as tie
+use Rattle.joined.proofs.joined_of.Reads as reads
+use Rattle.joined.proofs.joined_of.Lts as lts
+use Rattle.joined.proofs.join_step.Reads as join-step-reads
+use Rattle.numbers.proofs.next_byte.Reads as next-byte-reads
+use Rattle.numbers.proofs.parse_byte.Reads as parse-byte-reads
 
 abbrev Inv-loop : tie.InvT-loop
-Inv-loop t at radix big n value next v₀ scale₀ p₀ k₀ v scale p k = Joining radix big n t at v scale p k
+Inv-loop t at radix big n value next v₀ places₀ p₀ k₀ v places p k = Placing radix big n t at v places p k
 
 abbrev μ-loop : tie.MeasureT-loop
-μ-loop t at radix big n value next v₀ scale₀ p₀ k₀ v scale p k = k
+μ-loop t at radix big n value next v₀ places₀ p₀ k₀ v places p k = k
 
 parse-byte-requires : tie.Need-parse-byte-requires Inv-loop μ-loop
 parse-byte-requires c κs = search joining
@@ -44,8 +50,8 @@ cast-join-step c = search joining
 join-step-requires : tie.Need-join-step-requires Inv-loop μ-loop
 join-step-requires c κs = search joining
 
-mul-scale : tie.Need-mul-scale Inv-loop μ-loop
-mul-scale c = search joining
+add-places : tie.Need-add-places Inv-loop μ-loop
+add-places c = search joining
 
 sub-k : tie.Need-sub-k Inv-loop μ-loop
 sub-k c = search joining
@@ -80,7 +86,7 @@ joined-of-spec =
     returns-2
     cast-join-step
     join-step-requires
-    mul-scale
+    add-places
     sub-k
     loop-less
     loop-again

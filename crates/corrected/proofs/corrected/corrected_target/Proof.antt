@@ -5,11 +5,11 @@ use Rattle.corrected.proofs.corrected.corrected_target.Reads as reads
 use Rattle.corrected.proofs.corrected.corrected_target.Lts as lts
 use Rattle.target_parts.proofs.is_allowed.Reads as is-allowed-reads
 use Rattle.target_parts.proofs.refused.Reads as refused-reads
-use Rattle.corrected.proofs.class.class_by_bits.Reads as class-by-bits-reads
+use Rattle.mode.proofs.class_of.Reads as class-of-reads
 use Rattle.corrected.proofs.corrected.leads_to.Reads as leads-to-reads
 
-class-by-bits-requires : tie.Need-class-by-bits-requires
-class-by-bits-requires c κs = search correcting
+class-of-requires : tie.Need-class-of-requires
+class-of-requires c κs = search correcting
 
 is-allowed-requires : tie.Need-is-allowed-requires
 is-allowed-requires c κs = search correcting
@@ -30,7 +30,7 @@ pub corrected-target-spec : {M : Type 1} → statement M
 corrected-target-spec =
     tie.close
     (tie.spec
-    class-by-bits-requires
+    class-of-requires
     is-allowed-requires
     leads-to-requires
     refused-requires

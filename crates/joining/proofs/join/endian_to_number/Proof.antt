@@ -24,9 +24,6 @@ loop-holds c = search joining
 place-requires : tie.Need-place-requires Inv-loop μ-loop
 place-requires c κs = search joining
 
-mul-number : tie.Need-mul-number Inv-loop μ-loop
-mul-number c = search joining
-
 shared-slice-read-wide : tie.Need-shared-slice-read-wide Inv-loop μ-loop
 shared-slice-read-wide c = search joining
 
@@ -57,7 +54,6 @@ endian-to-number-spec =
     four-at-most-requires
     loop-holds
     place-requires
-    mul-number
     shared-slice-read-wide
     wide-requires
     add-number

@@ -30,9 +30,6 @@ number-bit-requires c κs = search targets
 byte-at-requires : tie.Need-byte-at-requires
 byte-at-requires c κs = search targets
 
-mul-opcode : tie.Need-mul-opcode
-mul-opcode c = search targets
-
 start-requires : tie.Need-start-requires
 start-requires c κs = search targets
 
@@ -66,7 +63,6 @@ reached-spec =
     has-requires-2
     number-bit-requires
     byte-at-requires
-    mul-opcode
     start-requires
     signed-start-requires
     wide-requires

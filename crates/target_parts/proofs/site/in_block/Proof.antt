@@ -11,9 +11,6 @@ enum-told c = search closings
 add64-requires : tie.Need-add64-requires
 add64-requires c κs = search closings
 
-mul-result : tie.Need-mul-result
-mul-result c = search closings
-
 add-result : tie.Need-add-result
 add-result c = search closings
 
@@ -22,9 +19,6 @@ enum-told-2 c = search closings
 
 add64-requires-2 : tie.Need-add64-requires-2
 add64-requires-2 c κs = search closings
-
-mul-result-2 : tie.Need-mul-result-2
-mul-result-2 c = search closings
 
 add-result-2 : tie.Need-add-result-2
 add-result-2 c = search closings
@@ -44,11 +38,9 @@ in-block-spec =
     (tie.spec
     enum-told
     add64-requires
-    mul-result
     add-result
     enum-told-2
     add64-requires-2
-    mul-result-2
     add-result-2
     returns
     returns-2

@@ -1,10 +1,11 @@
 use Rattle.target_parts.proofs.StartLaws.{closings}
-use Rattle.class_rows.proofs.row_of.Reads as row-of-reads
-use Rattle.target_parts.proofs.word.shl64.Reads as shl64-reads
 use Rattle.target_parts.proofs.site.near.Statement.{statement}
 use Rattle.target_parts.proofs.site.near.Tie as tie
 use Rattle.target_parts.proofs.site.near.Reads as reads
 use Rattle.target_parts.proofs.site.near.Lts as lts
+use Rattle.class_rows.proofs.row_of.Reads as row-of-reads
+use Rattle.target_parts.proofs.word.shl64.Reads as shl64-reads
+use Rattle.target_parts.proofs.word.shr64.Reads as shr64-reads
 
 row-of-requires : tie.Need-row-of-requires
 row-of-requires c κs = search closings
@@ -12,14 +13,14 @@ row-of-requires c κs = search closings
 shl64-requires : tie.Need-shl64-requires
 shl64-requires c κs = search closings
 
+shr64-requires : tie.Need-shr64-requires
+shr64-requires c κs = search closings
+
 rem-result : tie.Need-rem-result
 rem-result c = search closings
 
-div-result : tie.Need-div-result
-div-result c = search closings
-
-mul-result : tie.Need-mul-result
-mul-result c = search closings
+shl64-requires-2 : tie.Need-shl64-requires-2
+shl64-requires-2 c κs = search closings
 
 add-result : tie.Need-add-result
 add-result c = search closings
@@ -33,8 +34,8 @@ near-spec =
     (tie.spec
     row-of-requires
     shl64-requires
+    shr64-requires
     rem-result
-    div-result
-    mul-result
+    shl64-requires-2
     add-result
     returns)

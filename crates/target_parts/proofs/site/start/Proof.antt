@@ -1,22 +1,19 @@
 use Rattle.target_parts.proofs.StartLaws.{starting}
+use Rattle.target_parts.proofs.site.start.Statement.{statement}
+use Rattle.target_parts.proofs.site.start.Tie as tie
+use Rattle.target_parts.proofs.site.start.Reads as reads
+use Rattle.target_parts.proofs.site.start.Lts as lts
 use Rattle.joining.proofs.endian_to_number.Reads as endian-to-number-reads
 use Rattle.target_parts.proofs.site.after_first.Reads as after-first-reads
 use Rattle.target_parts.proofs.site.byte_at.Reads as byte-at-reads
 use Rattle.target_parts.proofs.site.wide.Reads as wide-reads
 use Rattle.target_parts.proofs.site.wide8.Reads as wide8-reads
-use Rattle.target_parts.proofs.site.start.Statement.{statement}
-use Rattle.target_parts.proofs.site.start.Tie as tie
-use Rattle.target_parts.proofs.site.start.Reads as reads
-use Rattle.target_parts.proofs.site.start.Lts as lts
 
 enum-told : tie.Need-enum-told
 enum-told c = search starting
 
 wide8-requires : tie.Need-wide8-requires
 wide8-requires c κs = search starting
-
-mul-result : tie.Need-mul-result
-mul-result c = search starting
 
 after-first-requires : tie.Need-after-first-requires
 after-first-requires c κs = search starting
@@ -29,9 +26,6 @@ enum-told-2 c = search starting
 
 wide8-requires-2 : tie.Need-wide8-requires-2
 wide8-requires-2 c κs = search starting
-
-mul-result-2 : tie.Need-mul-result-2
-mul-result-2 c = search starting
 
 byte-at-requires : tie.Need-byte-at-requires
 byte-at-requires c κs = search starting
@@ -96,12 +90,10 @@ start-spec =
     (tie.spec
     enum-told
     wide8-requires
-    mul-result
     after-first-requires
     add-result
     enum-told-2
     wide8-requires-2
-    mul-result-2
     byte-at-requires
     wide8-requires-3
     add-result-2

@@ -1,6 +1,6 @@
-use Rattle.classes.proofs.Bits.{deciding}
-use Rattle.classes.proofs.class_by_bits.Statement.{statement}
-use Rattle.classes.proofs.class_by_bits.Tie as tie
+use Rattle.mode.proofs.BitLaws.{deciding}
+use Rattle.mode.proofs.bits.class_of.Statement.{statement}
+use Rattle.mode.proofs.bits.class_of.Tie as tie
 
 returns : tie.Need-returns
 returns c = search deciding
@@ -26,7 +26,7 @@ returns-7 c = search deciding
 returns-8 : tie.Need-returns-8
 returns-8 c = search deciding
 
-pub class-by-bits-spec : {M : Type 1} → statement M
-class-by-bits-spec =
+pub class-of-spec : {M : Type 1} → statement M
+class-of-spec =
     tie.close
     (tie.spec returns returns-2 returns-3 returns-4 returns-5 returns-6 returns-7 returns-8)
