@@ -1,5 +1,5 @@
 //! The old module's parent: plain stand-ins for what it makes, then the source itself.
-pub use aslink3::entry::read;
+pub use aslink3::entry::{function, read};
 
 /// What a fixup refers to.
 pub enum CodeRef {

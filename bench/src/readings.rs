@@ -1,0 +1,83 @@
+//! The readings, without and with their segments, beside the Rust's, which makes segments always.
+use crate::old;
+use crate::texts::Set;
+use crate::turns::{in_turn, Pair, Spread};
+use gatecobalt::{Reader, Records};
+use std::hint::black_box;
+
+/// Our readings.
+pub const OURS: [&str; 4] = ["plain", "ended", "plain+segments", "ended+segments"];
+
+/// Positions and fixups of records.
+fn counts(records: Records) -> (usize, usize) {
+    (records.counts().positions, records.counts().fixups)
+}
+
+/// Positions and fixups of a text by one of the readers, to be compared and not left out.
+fn read(which: &str, reader: &mut Reader, text: &[u8]) -> (usize, usize) {
+    let found = match which {
+        "rust" => std::str::from_utf8(text).ok().and_then(old::read),
+        "plain" => reader.plain(text).ok().map(|plain| counts(plain.records())),
+        "ended" => reader.whole(text).ok().map(|module| counts(module.records())),
+        "plain+segments" => reader.plain(text).ok().map(|plain| {
+            black_box(plain.plain_segments(0));
+            counts(plain.records())
+        }),
+        "ended+segments" => reader.whole(text).ok().map(|module| {
+            black_box(module.segments(0));
+            counts(module.records())
+        }),
+        _ => None,
+    };
+    found.unwrap_or((0, 0))
+}
+
+/// All texts of a set so many times; answers the sum of what was found.
+pub fn pass(which: &str, reader: &mut Reader, set: &Set, times: usize) -> (usize, usize) {
+    let mut found = (0, 0);
+    for _ in 0..times {
+        for text in &set.texts {
+            let (positions, fixups) = black_box(read(which, reader, black_box(text)));
+            found = (found.0 + positions, found.1 + fixups);
+        }
+    }
+    found
+}
+
+/// One of ours over a set, in turn with the Rust.
+fn beside(which: &str, set: &Set) -> Pair {
+    let (mut mine, mut other) = (Reader::new(), Reader::new());
+    let mut ours = || {
+        black_box(pass(which, &mut mine, set, 1));
+    };
+    let mut rust = || {
+        black_box(pass("rust", &mut other, set, 1));
+    };
+    in_turn(&mut ours, &mut rust)
+}
+
+/// A line of the table: megabytes (of 10^6 bytes) a second of both, and how many times as fast.
+fn line(which: &str, set: &Set) {
+    let Pair { ours, rust, ratio } = beside(which, set);
+    let speed = |spent: Spread| spent.map(|seconds| set.bytes() as f64 / seconds / 1e6);
+    let (mine, other) = (speed(ours), speed(rust));
+    println!(
+        "{:26} {which:15} {:7.1} ({:6.1} to {:6.1})  {:6.1} ({:5.1} to {:5.1})  {:5.1}x ({:4.1} to {:4.1})",
+        set.name, mine.middle, mine.low, mine.high, other.middle, other.low, other.high, ratio.middle, ratio.low, ratio.high
+    );
+}
+
+/// The table, and whether all readers found the same.
+pub fn table(sets: &[Set]) -> bool {
+    let mut reader = Reader::new();
+    let mut same = true;
+    println!("{:26} {:15} {:>7} {:18} {:>7} {:16} {:>6}", "MB/s", "reading", "ours", "", "Rust", "", "ours");
+    for set in sets {
+        let rust = pass("rust", &mut reader, set, 1);
+        for which in OURS {
+            same &= pass(which, &mut reader, set, 1) == rust;
+            line(which, set);
+        }
+    }
+    same
+}
