@@ -36,7 +36,7 @@ fn word(b: &[u8], at: usize) -> u64
     let b1 = byte(b, std::num::wrapping_add_usize(at, 1));
     let b2 = byte(b, std::num::wrapping_add_usize(at, 2));
     let b3 = byte(b, std::num::wrapping_add_usize(at, 3));
-    byte(b, at) + b1 * 0x100 + b2 * 0x1_0000 + b3 * 0x100_0000
+    byte(b, at) + (b1 << 8) + (b2 << 16) + (b3 << 24)
 }
 
 // The answer from a place of these bytes on.
@@ -46,7 +46,7 @@ fn told_at(b: &[u8], at: usize) -> Told {
     Told {
         refusal: word(b, at),
         place: word(b, std::num::wrapping_add_usize(at, 4)),
-        sum: low + high * 0x1_0000_0000,
+        sum: low + (high << 32),
     }
 }
 

@@ -38,7 +38,7 @@ fn word(b: &[u8], at: usize) -> u64
     let b1 = byte(b, std::num::wrapping_add_usize(at, 1));
     let b2 = byte(b, std::num::wrapping_add_usize(at, 2));
     let b3 = byte(b, std::num::wrapping_add_usize(at, 3));
-    byte(b, at) + b1 * 0x100 + b2 * 0x1_0000 + b3 * 0x100_0000
+    byte(b, at) + (b1 << 8) + (b2 << 16) + (b3 << 24)
 }
 
 // The same as a place or a count.
