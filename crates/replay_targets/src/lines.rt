@@ -52,8 +52,7 @@ fn step_line(line: &[u8]) -> u64
     ensures { λ r. ⌜ r ≤ 1 ⌝ }
 {
     let mode = short(line, 2, 3);
-    let table = mode::class_table();
-    let class = mode::class_in(&table, mode);
+    let class = mode::class_of(mode);
     let three = mode / 256 % 2 == 1;
     let big = number(line, 6, 1) == 1;
     let mut values = four(line, 8);

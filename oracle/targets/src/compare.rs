@@ -103,9 +103,9 @@ fn edges(random: &mut Random, table: &Table) -> bool {
     tally.end()
 }
 
-/// Random cases, with the table made inside at each call.
+/// Random cases, the class by the mode's bits.
 fn alone(random: &mut Random) -> bool {
-    let mut tally = Tally::new("random targets, table made inside");
+    let mut tally = Tally::new("random targets, class by bits");
     for (mode, big) in modes() {
         for _ in 0..100 {
             let case = Case::random(random, mode, big);

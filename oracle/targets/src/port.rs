@@ -121,7 +121,7 @@ pub fn step(
     }
 }
 
-/// The target, with the table made inside.
+/// The target, with its class by the mode's bits.
 pub fn target(mode: u32, big: bool, number: u32, address: u64, bytes: &[u8]) -> Target {
     // SAFETY: numbers, and one slice that is read, with its length.
     unsafe { archive::probe_target(mode, big, number, address, bytes.as_ptr(), bytes.len()) }

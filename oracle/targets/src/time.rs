@@ -56,7 +56,7 @@ fn targets(random: &mut Random) {
     rounds("target, port, in rows", || {
         black_box(port::targets(true, &modes, &numbers, &addresses, &bytes, &mut out));
     });
-    rounds("target, port, table made inside", || {
+    rounds("target, port, class by bits", || {
         for case in &cases {
             let Case { mode, big, number, address, bytes } = *case;
             black_box(port::target(mode.into(), big, number, address, &bytes));
