@@ -1,18 +1,9 @@
-// The port's answers about a text, in the sample's numbers.
+// The port's answers about a text, in the sample's numbers: the probe's rows, with a name, content or fragments as one sum.
 use crate::Answer;
 use crate::sums::content_sum;
 use crate::sums::fragment_sum;
 use crate::sums::name_sum;
-use entry_line::Addr;
-use entry_line::Entry;
-use entry_line::EntryLine;
-use fields::Place;
-use header::Form;
-use header::Head;
-use header::Width;
-use numbers::Num;
-use pair_line::ContentLine;
-use pair_line::RelocationLine;
+use probe_line::Row;
 
 // A text that is not read.
 fn none() -> Answer {
@@ -27,183 +18,103 @@ fn none() -> Answer {
     }
 }
 
-// A text that is read, with its bytes used and values.
-fn some(used: usize, a: u64, b: u64, c: u64, d: u64, e: u64) -> Answer {
+// A row with up to three values, of which a sum may be the third.
+fn of_row(r: Row, sum: u64) -> Answer {
+    if r.reason != 0 {
+        return none();
+    }
     Answer {
         taken: 1,
-        used: used as u64,
-        first: a,
-        second: b,
-        third: c,
-        fourth: d,
-        fifth: e,
+        used: r.place,
+        first: r.first,
+        second: r.second,
+        third: std::num::wrapping_add_u64(r.third, sum),
+        fourth: 0,
+        fifth: 0,
     }
 }
 
-// 1 or 0.
-fn one_if(b: bool) -> u64 {
-    if b { 1 } else { 0 }
+// Bit 3 of the flags as 1 (absolute), bit 5 as 2 (code), and 4 for a given addr.
+fn marks(flags: u64, given: u64) -> u64 {
+    flags / 8 % 2 + flags / 32 % 2 * 2 + given % 2 * 4
 }
 
-// A number.
-fn of_number(n: Num) -> Answer {
-    match n {
-        Num::Is { value, next } => some(next, value as u64, 0, 0, 0, 0),
-        Num::No { reason: _, at: _ } => none(),
+// A line of group one: its name's length and sum, then size, marks and addr of an area, or whether a symbol is outside and its value.
+fn of_entry(t: &[u8], r: Row) -> Answer {
+    if r.reason != 0 {
+        return none();
+    }
+    let fourth = if r.kind == 2 {
+        marks(r.second, r.third)
+    } else {
+        r.second
+    };
+    Answer {
+        taken: 1,
+        used: r.place,
+        first: r.length,
+        second: name_sum(t, r.name as usize, r.length as usize),
+        third: r.first,
+        fourth: fourth,
+        fifth: r.fourth,
     }
 }
 
-// A place.
-fn of_place(p: Place) -> Answer {
-    match p {
-        Place::At { next } => some(next, 0, 0, 0, 0, 0),
-        Place::Not { reason: _, at: _ } => none(),
-    }
-}
-
-// The address length in numbers.
-fn length_of(w: Width) -> u64 {
-    match w {
-        Width::Two => 2,
-        Width::Three => 3,
-        Width::Four => 4,
-    }
-}
-
-// A header: radix, order and address length.
-fn of_head(h: Head) -> Answer {
-    match h {
-        Head::Found { form, next } => {
-            let width = form.width;
-            some(
-                next,
-                form.radix as u64,
-                one_if(form.big),
-                length_of(width),
-                0,
-                0,
-            )
-        }
-        Head::Missing => none(),
-    }
-}
-
-// Bit 3 of the flags as 1 (absolute) and bit 5 as 2 (code).
-fn marks(flags: u32) -> u64 {
-    ((flags / 8 % 2) + (flags / 32 % 2) * 2) as u64
-}
-
-// An area: its name's length and sum, size, marks with 4 for a given addr, and addr.
-fn of_area(used: usize, n: u64, sum: u64, size: u32, flags: u32, addr: Addr) -> Answer {
-    match addr {
-        Addr::Given { addr: a } => some(used, n, sum, size as u64, marks(flags) % 4 + 4, a as u64),
-        Addr::Absent => some(used, n, sum, size as u64, marks(flags) % 4, 0),
-    }
-}
-
-// A line of group one.
-fn of_taken(t: &[u8], entry: Entry, used: usize) -> Answer {
-    match entry {
-        Entry::Ignored => some(used, 0, 0, 0, 0, 0),
-        Entry::Area {
-            name,
-            len,
-            size,
-            flags,
-            addr,
-        } => of_area(used, len as u64, name_sum(t, name, len), size, flags, addr),
-        Entry::Symbol {
-            name,
-            len,
-            is_ref,
-            value,
-        } => some(
-            used,
-            len as u64,
-            name_sum(t, name, len),
-            one_if(is_ref),
-            value as u64,
-            0,
-        ),
-    }
-}
-
-// A line of group one, or none.
-fn of_entry(t: &[u8], e: EntryLine) -> Answer {
-    match e {
-        EntryLine::Is { entry, used } => of_taken(t, entry, used),
-        EntryLine::No { reason: _, at: _ } => none(),
-    }
-}
-
-// A T line: its address, the count of its content and its sum.
-fn of_content(t: &[u8], form: Form, whole: bool) -> Answer {
+// A T line, which may have to be used whole: its address, the count of its content and its sum.
+fn of_content(t: &[u8], radix: u8, big: bool, width: u8, whole: bool) -> Answer {
     let mut bytes = [0u8; 256];
-    let c = content(t, form, whole, &mut bytes);
-    match c {
-        ContentLine::Content {
-            address,
-            count,
-            used,
-        } => some(
-            used,
-            address as u64,
-            count as u64,
-            content_sum(&bytes, count),
-            0,
-            0,
-        ),
-        ContentLine::NoContent { reason: _, at: _ } => none(),
-    }
-}
-
-// A T line, which may have to be used whole.
-fn content(t: &[u8], form: Form, whole: bool, bytes: &mut [u8; 256]) -> ContentLine {
-    if whole {
-        return pair_line::whole_content(t, form, bytes);
-    }
-    pair_line::parse_content(t, form, bytes)
+    let r = if whole {
+        probe_line::probe_whole(t, radix, big, width, &mut bytes)
+    } else {
+        probe_line::probe_content(t, radix, big, width, &mut bytes)
+    };
+    of_row(r, content_sum(&bytes, r.second as usize))
 }
 
 // An R line: its area's index, the count of its fragments and their sum.
-fn of_relocation(t: &[u8], form: Form) -> Answer {
+fn of_relocation(t: &[u8], radix: u8, big: bool, width: u8) -> Answer {
     let mut modes = [0u32; 64];
     let mut entries = [0u32; 64];
     let mut indexes = [0u32; 64];
-    match pair_line::parse_reloc_line(t, form, &mut modes, &mut entries, &mut indexes) {
-        RelocationLine::Relocation { area, count, used } => {
-            let sum = fragment_sum(&modes, &entries, &indexes, count);
-            some(used, area as u64, count as u64, sum, 0, 0)
-        }
-        RelocationLine::NoRelocation { reason: _, at: _ } => none(),
-    }
+    let r = probe_line::probe_relocation(
+        t,
+        radix,
+        big,
+        width,
+        &mut modes,
+        &mut entries,
+        &mut indexes,
+    );
+    of_row(
+        r,
+        fragment_sum(&modes, &entries, &indexes, r.second as usize),
+    )
 }
 
-// What a reader of numbers answers.
-fn of_small(reader: u32, form: Form, t: &[u8]) -> Answer {
-    let width = form.width;
+// What a reader of numbers, of the header or of a line that is passed over finds.
+fn small(reader: u32, t: &[u8], radix: u8, big: bool, width: u8) -> Row {
     match reader {
-        0 => of_number(numbers::parse_number(t, 0, form.radix)),
-        1 => of_number(numbers::parse_byte(t, 0, form.radix)),
-        2 => of_number(joined::parse_multi_number(t, 0, form.radix, form.big, width)),
-        3 => of_number(joined::parse_area_index(t, 0, form.radix, form.big)),
-        _ => of_number(fragments::parse_extended_mode(t, 0, form.radix)),
+        0 => probe_line::probe_number(t, 0, radix),
+        1 => probe_line::probe_byte(t, 0, radix),
+        2 => probe_line::probe_address(t, 0, radix, big, width),
+        3 => probe_line::probe_index(t, 0, radix, big),
+        4 => probe_line::probe_mode(t, 0, radix),
+        5 => probe_line::probe_header(t),
+        6 => probe_line::probe_ignored(t, b"OHM"),
+        7 => probe_line::probe_ignored(t, b"T"),
+        _ => probe_line::probe_ignored(t, b"P"),
     }
 }
 
 // What the reader of a number answers: the readers stand in the sample's order.
-pub(crate) fn answer(reader: u32, form: Form, t: &[u8]) -> Answer {
+pub(crate) fn answer(reader: u32, t: &[u8], radix: u8, big: bool, width: u8) -> Answer {
     match reader {
-        0..=4 => of_small(reader, form, t),
-        5 => of_head(header::format_spec(t)),
-        6 => of_place(fields::ignore_line(t, b"OHM")),
-        7 => of_place(fields::ignore_line(t, b"T")),
-        8 => of_place(fields::ignore_line(t, b"P")),
-        9 => of_entry(t, entry_line::parse_area(t, form)),
-        10 => of_entry(t, entry_line::parse_symdefref(t, form)),
-        11 => of_entry(t, entry_line::parse_entry(t, form)),
-        12 => of_content(t, form, false),
-        13 => of_content(t, form, true),
-        _ => of_relocation(t, form),
+        0..=8 => of_row(small(reader, t, radix, big, width), 0),
+        9 => of_entry(t, probe_line::probe_area(t, radix, big, width)),
+        10 => of_entry(t, probe_line::probe_symbol(t, radix, big, width)),
+        11 => of_entry(t, probe_line::probe_entry(t, radix, big, width)),
+        12 => of_content(t, radix, big, width, false),
+        13 => of_content(t, radix, big, width, true),
+        _ => of_relocation(t, radix, big, width),
     }
 }

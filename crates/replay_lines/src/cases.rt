@@ -3,8 +3,6 @@ ghost use Prim.Native.Nat.{_≤_};
 use crate::Answer;
 use crate::Counts;
 use crate::answers::answer;
-use header::Form;
-use header::Width;
 use numbers::Num;
 use scan::Kind;
 
@@ -27,24 +25,6 @@ fn numbers(t: &[u8], out: &mut [u32; 11]) -> usize {
         i += 1;
     }
     p
-}
-
-// The address length: two, three, or else four.
-fn width_of(n: u32) -> Width {
-    match n {
-        2 => Width::Two,
-        3 => Width::Three,
-        _ => Width::Four,
-    }
-}
-
-// The form of a case: radix, order and address length.
-fn form_of(radix: u32, order: u32, width: u32) -> Form {
-    Form {
-        radix: (radix % 256) as u8,
-        big: order == 1,
-        width: width_of(width),
-    }
 }
 
 // Whether a value is the recorded one.
@@ -75,14 +55,20 @@ fn same(a: Answer, n: &[u32; 11]) -> bool {
     equal(a.fifth, n[10])
 }
 
+// A number of a case that is below 256.
+fn small(n: u32) -> u8 {
+    (n % 256) as u8
+}
+
 // What the reader of a case answers about the first bytes of what was lent.
 fn answered(n: &[u32; 11], bytes: &[u8], count: usize) -> Answer {
-    let form = form_of(n[1], n[2], n[3]);
+    let radix = small(n[1]);
+    let width = small(n[3]);
     let from = 0;
     if count <= bytes.len() {
-        return answer(n[0], form, &bytes[from..count]);
+        return answer(n[0], &bytes[from..count], radix, n[2] == 1, width);
     }
-    answer(n[0], form, bytes)
+    answer(n[0], bytes, radix, n[2] == 1, width)
 }
 
 // The same about an array.
