@@ -1,7 +1,7 @@
 //! The readings, without and with their segments, beside the Rust's, which makes segments always.
 use crate::old;
 use crate::texts::Set;
-use crate::turns::{in_turn, Pair, Spread};
+use crate::turns::{heading, in_turn, line, Pair, Spread};
 use gatecobalt::{Reader, Records};
 use std::hint::black_box;
 
@@ -56,27 +56,23 @@ fn beside(which: &str, set: &Set) -> Pair {
     in_turn(&mut ours, &mut rust)
 }
 
-/// A line of the table: megabytes (of 10^6 bytes) a second of both, and how many times as fast.
-fn line(which: &str, set: &Set) {
+/// A line of the table: megabytes (of 10^6 bytes) a second.
+fn told(which: &str, set: &Set) {
     let Pair { ours, rust, ratio } = beside(which, set);
     let speed = |spent: Spread| spent.map(|seconds| set.bytes() as f64 / seconds / 1e6);
-    let (mine, other) = (speed(ours), speed(rust));
-    println!(
-        "{:26} {which:15} {:7.1} ({:6.1} to {:6.1})  {:6.1} ({:5.1} to {:5.1})  {:5.1}x ({:4.1} to {:4.1})",
-        set.name, mine.middle, mine.low, mine.high, other.middle, other.low, other.high, ratio.middle, ratio.low, ratio.high
-    );
+    line(&set.name, which, speed(ours), speed(rust), ratio);
 }
 
 /// The table, and whether all readers found the same.
 pub fn table(sets: &[Set]) -> bool {
     let mut reader = Reader::new();
     let mut same = true;
-    println!("{:26} {:15} {:>7} {:18} {:>7} {:16} {:>6}", "MB/s", "reading", "ours", "", "Rust", "", "ours");
+    heading("MB/s", "reading");
     for set in sets {
         let rust = pass("rust", &mut reader, set, 1);
         for which in OURS {
             same &= pass(which, &mut reader, set, 1) == rust;
-            line(which, set);
+            told(which, set);
         }
     }
     same

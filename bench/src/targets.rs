@@ -2,7 +2,7 @@
 //! its boxed function, as its user calls it, ours by mode, order and number.
 use crate::old;
 use crate::texts::Set;
-use crate::turns::{in_turn, Spread};
+use crate::turns::{heading, in_turn, line, Spread};
 use gatecobalt::Reader;
 use std::hint::black_box;
 
@@ -36,7 +36,9 @@ fn of_fixups(set: &Set) -> Vec<Asked> {
     for text in &set.texts {
         if let Ok(module) = reader.whole(text) {
             let big = module.records().header().big;
-            all.extend(module.records().fixups().map(|row| asked(&mut state, row.mode, big, row.number)));
+            all.extend(
+                module.records().fixups().map(|row| asked(&mut state, row.mode, big, row.number)),
+            );
         }
     }
     all
@@ -80,7 +82,8 @@ fn corrected(all: &[Asked]) -> u64 {
 
 /// Two lines of the table, and whether ours and the Rust's ported targets are the same.
 fn lines(name: &str, all: &[Asked]) -> bool {
-    let function = |asked: &Asked| old::function(asked.mode as u16, asked.big, asked.number as usize);
+    let function =
+        |asked: &Asked| old::function(asked.mode as u16, asked.big, asked.number as usize);
     let functions: Functions = all.iter().map(function).collect();
     for (which, ours) in [("ported", ported as fn(&[Asked]) -> u64), ("corrected", corrected)] {
         let mut mine = || {
@@ -91,19 +94,15 @@ fn lines(name: &str, all: &[Asked]) -> bool {
         };
         let pair = in_turn(&mut mine, &mut other);
         let each = |spent: Spread| spent.map(|seconds| seconds * 1e9 / all.len() as f64);
-        let (mine, other, ratio) = (each(pair.ours), each(pair.rust), pair.ratio);
-        println!(
-            "{name:26} {which:15} {:7.1} ({:6.1} to {:6.1})  {:6.1} ({:5.1} to {:5.1})  {:5.2}x ({:4.2} to {:4.2})",
-            mine.middle, mine.low, mine.high, other.middle, other.low, other.high, ratio.middle, ratio.low, ratio.high
-        );
+        line(name, which, each(pair.ours), each(pair.rust), pair.ratio);
     }
     ported(all) == by_rust(all, &functions)
 }
 
 /// The table, and whether the ported targets are the Rust's.
 pub fn table(real: &Set) -> bool {
-    println!("{:26} {:15} {:>7} {:18} {:>7} {:16} {:>6}", "ns a call", "target", "ours", "", "Rust", "", "ours");
+    heading("ns a call", "target");
     let fixups = of_fixups(real);
-    let same = lines(&format!("{} fixups of the real", fixups.len()), &fixups);
+    let same = lines(&format!("{} real fixups", fixups.len()), &fixups);
     lines("all modes", &of_modes()) && same
 }

@@ -70,3 +70,20 @@ pub fn in_turn(ours: &mut dyn FnMut(), rust: &mut dyn FnMut()) -> Pair {
         ratio: Spread::of(turns.iter().map(|turn| turn.1 / turn.0).collect()),
     }
 }
+
+/// A table's heading: what is told, and of what.
+pub fn heading(told: &str, of: &str) {
+    println!("{told:26} {of:15} {:30}{:30}times as fast", "ours", "the Rust");
+}
+
+/// A number's middle with the quarters around it.
+fn shown(spread: Spread) -> String {
+    format!("{:7.1} ({:6.1} to {:6.1})", spread.middle, spread.low, spread.high)
+}
+
+/// A table's line: ours, the Rust's, and how many times as fast ours is.
+pub fn line(name: &str, of: &str, ours: Spread, rust: Spread, ratio: Spread) {
+    let Spread { low, middle, high } = ratio;
+    let (ours, rust) = (shown(ours), shown(rust));
+    println!("{name:26} {of:15} {ours:30}{rust:30}{middle:5.2} ({low:5.2} to {high:5.2})");
+}
