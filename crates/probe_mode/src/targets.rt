@@ -36,7 +36,7 @@ fn target_answer(answer: Answer) -> TargetAnswer
     }
 }
 
-// The target, with the table made inside.
+// The target, its class by the bits of its mode.
 #[no_mangle]
 pub extern "C" fn probe_target(
     mode: u32,
