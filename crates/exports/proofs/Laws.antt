@@ -13,9 +13,15 @@ use Rattle.format.specs.Held.{Held, Meets}
 use Rattle.answer_numbers.specs.Numbers.{headerNumbers, targetNumbers}
 use Rattle.answer_numbers.specs.declared.answers.HeaderNumbers.{HeaderNumbers}
 use Rattle.answer_numbers.specs.declared.answers.TargetNumbers.{TargetNumbers}
+use Rattle.halt.specs.Halt.{Halt, haltOf}
+use Rattle.counts.specs.Counts.{Counted}
+use Rattle.ended.specs.Answer as ends
+use Rattle.ended.specs.declared.Answer as ended
+use Rattle.reading_numbers.specs.Ended.{endedNumbers}
+use Rattle.reading_numbers.specs.declared.beside.EndedNumbers.{EndedNumbers}
 use Rattle.reading_numbers.specs.Numbers.{readNumbers}
 use Rattle.reading_numbers.specs.declared.ReadNumbers.{ReadNumbers}
-use Rattle.exports.specs.Answers.{Answers}
+use Rattle.exports.specs.Answers.{Answers, EndedAnswers, endedFor}
 
 pub header-told : {a o : Option the-header.Head} {r : HeaderNumbers} → r ≡ headerNumbers a → a ≡ o → r ≡ headerNumbers o
 header-told f e = f ∙ ap headerNumbers e
@@ -34,4 +40,20 @@ answers f m = record {
   fixups = m .fixups;
 }
 
-pub ruleset numbers = (needs, header-told, target-told, answers)
+-- the same of the ended reading
+pub ended-answers : {text : List ℕ} {old new : Held} (a : ended.Answer) {r : EndedNumbers}
+    → r ≡ endedNumbers (ends.told a) (ends.toldHalt a) (ends.toldWord a) → ends.Answers text old a new → EndedAnswers text old r new
+ended-answers {text} a f m = record {
+  says =
+      f
+      ∙ ap (λ (h : Option Halt). endedNumbers (ends.told a) h (ends.toldWord a)) (m .halts)
+      ∙ ap (λ (w : Option Counted). endedNumbers (ends.told a) (ends.ifAccepted (ends.told a) (haltOf text)) w) (m .counts)
+      ∙ ap (endedFor text) (m .reads .says);
+  areas = m .reads .areas;
+  symbols = m .reads .symbols;
+  values = m .reads .values;
+  masks = m .reads .masks;
+  fixups = m .reads .fixups;
+}
+
+pub ruleset numbers = (needs, header-told, target-told, answers, ended-answers)

@@ -7,14 +7,16 @@ ghost use Rattle.format.specs.Target as the;
 ghost use Rattle.format.specs.Corrected.{corrected};
 ghost use Rattle.reading.specs.Answer.{held};
 ghost use Rattle.answer_numbers.specs.Numbers.{headerNumbers, rooms, targetNumbers, widths};
-ghost use Rattle.exports.specs.Answers.{Answers};
+ghost use Rattle.exports.specs.Answers.{Answers, EndedAnswers};
 use answer_numbers::HeaderNumbers;
 use answer_numbers::Rooms;
 use answer_numbers::TargetNumbers;
 use answer_numbers::Widths;
 use answer_numbers::header_numbers;
 use answer_numbers::target_numbers;
+use reading_numbers::EndedNumbers;
 use reading_numbers::ReadNumbers;
+use reading_numbers::ended_numbers;
 use reading_numbers::read_numbers;
 
 // The plain reading of a text into five lent buffers.
@@ -32,7 +34,7 @@ pub extern "C" fn gatecobalt_read_plain(
     read_numbers(reading::read_plain(text, areas, symbols, values, masks, fixups))
 }
 
-// The ended reading of a text into five lent buffers.
+// The ended reading of a text into five lent buffers, with the halt of one that stopped and what the H line says.
 #[no_mangle]
 pub extern "C" fn gatecobalt_read_ended(
     text: &[u8],
@@ -41,10 +43,10 @@ pub extern "C" fn gatecobalt_read_ended(
     values: &mut [u8],
     masks: &mut [u8],
     fixups: &mut [u32],
-) -> ReadNumbers
-    ensures { λ r. ⌜ Answers true (now (text .entry)) (held (now (areas .entry)) (now (symbols .entry)) (now (values .entry)) (now (masks .entry)) (now (fixups .entry))) r (held (now (areas .exit)) (now (symbols .exit)) (now (values .exit)) (now (masks .exit)) (now (fixups .exit))) ⌝ }
+) -> EndedNumbers
+    ensures { λ r. ⌜ EndedAnswers (now (text .entry)) (held (now (areas .entry)) (now (symbols .entry)) (now (values .entry)) (now (masks .entry)) (now (fixups .entry))) r (held (now (areas .exit)) (now (symbols .exit)) (now (values .exit)) (now (masks .exit)) (now (fixups .exit))) ⌝ }
 {
-    read_numbers(reading::read_ended(text, areas, symbols, values, masks, fixups))
+    ended_numbers(ended::read_ended(text, areas, symbols, values, masks, fixups))
 }
 
 // The radix, order and address length of a text, which a target's caller needs.

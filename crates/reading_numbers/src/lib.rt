@@ -2,6 +2,11 @@
 ghost use mathlib.Core.Path.{_≡_};
 ghost use Rattle.reading.specs.Answer as reads;
 ghost use Rattle.reading_numbers.specs.Numbers.{acceptedNumbers, countedNumbers, readNumbers, refusedNumbers};
+
+mod beside;
+
+pub use beside::EndedNumbers;
+pub use beside::ended_numbers;
 use reading::Counts;
 use reading::Verdict;
 

@@ -1,12 +1,16 @@
 use Rattle.exports.proofs.Laws.{numbers}
 use Rattle.exports.proofs.gatecobalt_read_ended.Statement.{statement}
 use Rattle.exports.proofs.gatecobalt_read_ended.Tie as tie
+use Rattle.exports.proofs.gatecobalt_read_ended.Reads as reads
+use Rattle.exports.proofs.gatecobalt_read_ended.Lts as lts
+use Rattle.ended.proofs.read_ended.Reads as read-ended-reads
+use Rattle.reading_numbers.proofs.ended_numbers.Reads as ended-numbers-reads
 
 read-ended-requires : tie.Need-read-ended-requires
 read-ended-requires c κs = search numbers
 
-read-numbers-requires : tie.Need-read-numbers-requires
-read-numbers-requires c κs = search numbers
+ended-numbers-requires : tie.Need-ended-numbers-requires
+ended-numbers-requires c κs = search numbers
 
 same-length : tie.Need-same-length
 same-length c = search numbers
@@ -31,7 +35,7 @@ gatecobalt-read-ended-spec =
     tie.close
     (tie.spec
     read-ended-requires
-    read-numbers-requires
+    ended-numbers-requires
     same-length
     same-length-2
     same-length-3
