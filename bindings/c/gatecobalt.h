@@ -34,11 +34,12 @@ extern "C" {
 #define GATECOBALT_MASKS 65536
 #define GATECOBALT_FIXUPS (1024 * GATECOBALT_FIXUP_WIDTH)
 
-/* A reading's answer. A refusal: its number (1 to 13) and place, all else 0; no lent buffer has
- * changed. Otherwise refusal is 0, the counts say how much there is, finished is 1 if no byte is
- * left, else 0 and place is that of the next byte: behind it nothing was read. The rows stand first
- * in their buffers, and so do the values and masks of all kept areas, one area behind the other;
- * behind them the buffers keep their bytes. */
+/* The plain reading's answer, a type of its own: its finished is no verdict, since it may take what
+ * is left of a cut last line, and ends before the last line end of a whole module. A refusal: its
+ * number (1 to 13) and place, all else 0; no lent buffer has changed. Otherwise refusal is 0, the
+ * counts say how much there is, finished is 1 if no byte is left, else 0 and place is that of the
+ * next byte: behind it nothing was read. The rows stand first in their buffers, and so do the values
+ * and masks of all kept areas, one area behind the other; behind them the buffers keep their bytes. */
 typedef struct {
     uint32_t refusal;
     uint32_t finished;
@@ -49,13 +50,36 @@ typedef struct {
     size_t kept; /* code areas with size above 0; an area's id is its rank among them */
     size_t positions; /* the sizes of kept areas together */
     size_t fixups;
-} gatecobalt_reading;
-
-/* The plain reading's answer, a type of its own: its finished is no verdict, since it may take what
- * is left of a cut last line, and ends before the last line end of a whole module. */
-typedef struct {
-    gatecobalt_reading read;
 } gatecobalt_plain_reading;
+
+/* Why a reading stopped. */
+#define GATECOBALT_NO_DIGIT 1 /* a number is due, and there is no digit */
+#define GATECOBALT_OVER_32_BITS 2
+#define GATECOBALT_OVER_255 3
+#define GATECOBALT_CANNOT_GO_ON 4 /* anything else */
+
+/* What the first H line of the form `H N areas N global symbols` says of the counted A and S lines. */
+#define GATECOBALT_EQUAL 1
+#define GATECOBALT_NOT_EQUAL 2
+#define GATECOBALT_NOT_TOLD 3
+
+/* The ended reading's answer: the same numbers, and three more. Where it stopped, reason is 1 to 4
+ * and halt is the place where the line there came to a halt: a number's first byte, or the byte that
+ * cannot stand there; else both are 0. counted is 1 to 3, or 0 for a refusal. */
+typedef struct {
+    uint32_t refusal;
+    uint32_t finished;
+    size_t place;
+    size_t areas;
+    size_t symbols;
+    size_t lines;
+    size_t kept;
+    size_t positions;
+    size_t fixups;
+    uint32_t reason;
+    uint32_t counted;
+    size_t halt;
+} gatecobalt_reading;
 
 /* What a header tells: refusal is 4 if there is none, else 0; radix 16, 10 or 8; big is 1 if the
  * highest byte comes first; width is the bytes of an address. */
@@ -99,12 +123,13 @@ gatecobalt_reading gatecobalt_read_ended(const uint8_t *text, size_t text_length
     uint8_t *values, size_t values_length, uint8_t *masks, size_t masks_length,
     uint32_t *fixups, size_t fixups_length);
 
-/* Whether the ended reading read a text to its last byte, every record with its line end. If not,
- * what it read is a part. A text that was cut directly behind a record is whole by this: its lines
- * alone do not tell. */
+/* Whether the ended reading read a text to its last byte, every record with its line end, and the
+ * counts of its H line, if it tells any, are those of its A and S lines. If not, what it read is a
+ * part, or goes to a person. A text that was cut directly behind a T and R pair, or that tells no
+ * counts and was cut behind any record, is whole by this: its lines alone do not tell. */
 static inline bool gatecobalt_is_whole(gatecobalt_reading read)
 {
-    return read.refusal == 0 && read.finished == 1;
+    return read.refusal == 0 && read.finished == 1 && read.counted != GATECOBALT_NOT_EQUAL;
 }
 
 /* A text's header. */

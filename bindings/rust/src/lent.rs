@@ -1,5 +1,6 @@
 //! Both readings into buffers that a caller lends.
-use crate::module::{Module, NotWhole, Stopped};
+use crate::halt::{Counted, Halt};
+use crate::module::{Module, NotEqual, NotWhole, Stopped};
 use crate::plain::Plain;
 use crate::raw::{self, ReadNumbers};
 use crate::records::{header, Counts, Records};
@@ -42,13 +43,15 @@ fn refused(read: &ReadNumbers) -> Result<(), Refused> {
 impl<'a> Lent<'a> {
     /// The ended reading of a text, as [`Reader::whole`](crate::Reader::whole).
     pub fn whole(mut self, text: &'a [u8]) -> Result<Module<'a>, NotWhole<'a>> {
-        let read = raw::read_ended(text, &mut self);
-        refused(&read).map_err(NotWhole::Refused)?;
-        let records = self.records(text, &read);
-        if read.finished == 1 {
-            Ok(Module(records))
+        let ended = raw::read_ended(text, &mut self);
+        refused(&ended.read).map_err(NotWhole::Refused)?;
+        let (records, counted) = (self.records(text, &ended.read), Counted::told(&ended));
+        if ended.read.finished != 1 {
+            Err(NotWhole::Stopped(Stopped { halt: Halt::told(&ended), counted, records }))
+        } else if counted == Counted::NotEqual {
+            Err(NotWhole::NotEqual(NotEqual { records }))
         } else {
-            Err(NotWhole::Stopped(Stopped { place: read.place, records }))
+            Ok(Module(records, counted))
         }
     }
 

@@ -2,6 +2,7 @@
 #![deny(missing_docs, unsafe_op_in_unsafe_fn, clippy::undocumented_unsafe_blocks)]
 // A stop holds the records that a module holds: neither is larger than the other.
 #![allow(clippy::result_large_err)]
+mod halt;
 mod lent;
 mod module;
 mod plain;
@@ -11,8 +12,9 @@ mod records;
 mod refusal;
 mod segment;
 
+pub use halt::{Counted, Halt, Reason};
 pub use lent::Lent;
-pub use module::{Fault, Module, NotWhole, Stopped};
+pub use module::{Fault, Module, NotEqual, NotWhole, Stopped};
 pub use plain::Plain;
 pub use raw::{rooms, widths, Rooms, Widths};
 pub use reader::Reader;

@@ -1,15 +1,18 @@
 //! What is whole, and what is not.
+use crate::halt::{Counted, Halt, Reason};
 use crate::records::Records;
 use crate::refusal::Refused;
 use crate::segment::Segment;
 use std::{error, fmt, ops};
 
-/// A text that was read to its last byte, every record with its line end.
+/// A text that was read to its last byte, every record with its line end, and whose H line, if it
+/// tells counts, tells those that were read.
 ///
-/// A text that was cut directly behind a record is such a text too: its lines alone do not tell.
+/// A text that was cut directly behind a T and R pair, or that tells no counts and was cut behind any
+/// record, is such a text too: its lines alone do not tell.
 #[derive(Clone, Copy, Debug)]
 #[must_use]
-pub struct Module<'a>(pub(crate) Records<'a>);
+pub struct Module<'a>(pub(crate) Records<'a>, pub(crate) Counted);
 
 impl<'a> Module<'a> {
     /// The kept areas as segments. The first has the id `first`; over the modules of a library a
@@ -23,6 +26,12 @@ impl<'a> Module<'a> {
     #[must_use]
     pub fn records(&self) -> Records<'a> {
         self.0
+    }
+
+    /// Whether its H line told the counts that were read, or none.
+    #[must_use]
+    pub fn counted(&self) -> Counted {
+        self.1
     }
 }
 
@@ -39,7 +48,8 @@ impl<'a> ops::Deref for Module<'a> {
 #[derive(Clone, Copy, Debug)]
 #[must_use]
 pub struct Stopped<'a> {
-    pub(crate) place: usize,
+    pub(crate) halt: Halt,
+    pub(crate) counted: Counted,
     pub(crate) records: Records<'a>,
 }
 
@@ -47,7 +57,25 @@ impl<'a> Stopped<'a> {
     /// The place of the first byte that was not read.
     #[must_use]
     pub fn place(&self) -> usize {
-        self.place
+        self.halt.stop
+    }
+
+    /// Why the line there came to a halt.
+    #[must_use]
+    pub fn reason(&self) -> Reason {
+        self.halt.reason
+    }
+
+    /// Where and why it stopped.
+    #[must_use]
+    pub fn halt(&self) -> Halt {
+        self.halt
+    }
+
+    /// What the H line says of the records up to there.
+    #[must_use]
+    pub fn counted(&self) -> Counted {
+        self.counted
     }
 
     /// The records that were read up to there. There may be more in the text.
@@ -64,6 +92,28 @@ impl<'a> Stopped<'a> {
     }
 }
 
+/// A text that was read to its last byte, and whose H line tells other counts of areas and symbols than
+/// were read: lines may be missing, or the H line is wrong. It goes to a person.
+#[derive(Clone, Copy, Debug)]
+#[must_use]
+pub struct NotEqual<'a> {
+    pub(crate) records: Records<'a>,
+}
+
+impl<'a> NotEqual<'a> {
+    /// The records that were read. There may have been more.
+    #[must_use]
+    pub fn as_read(&self) -> Records<'a> {
+        self.records
+    }
+
+    /// The segments that these records give. They may not be the module's.
+    #[must_use]
+    pub fn partial_segments(&self, first: usize) -> Vec<Segment> {
+        self.records.segments(first)
+    }
+}
+
 /// A text that is not read as a whole module.
 #[derive(Clone, Copy, Debug)]
 #[must_use]
@@ -73,6 +123,8 @@ pub enum NotWhole<'a> {
     Refused(Refused),
     /// The reading stopped before its last byte.
     Stopped(Stopped<'a>),
+    /// It was read to its last byte, and its H line tells other counts.
+    NotEqual(NotEqual<'a>),
 }
 
 impl NotWhole<'_> {
@@ -80,7 +132,11 @@ impl NotWhole<'_> {
     pub fn fault(&self) -> Fault {
         match self {
             NotWhole::Refused(refused) => Fault::Refused(*refused),
-            NotWhole::Stopped(stopped) => Fault::Stopped { place: stopped.place },
+            NotWhole::Stopped(stopped) => Fault::Stopped(stopped.halt),
+            NotWhole::NotEqual(read) => {
+                let counts = read.records.counts();
+                Fault::NotEqual { areas: counts.areas, symbols: counts.symbols }
+            }
         }
     }
 }
@@ -102,10 +158,14 @@ pub enum Fault {
     /// It is refused.
     Refused(Refused),
     /// The reading stopped.
+    Stopped(Halt),
+    /// The H line tells other counts than were read.
     #[non_exhaustive]
-    Stopped {
-        /// The place of the first byte that was not read.
-        place: usize,
+    NotEqual {
+        /// The areas that were read.
+        areas: usize,
+        /// The symbols that were read.
+        symbols: usize,
     },
 }
 
@@ -117,11 +177,14 @@ impl From<NotWhole<'_>> for Fault {
 }
 
 impl fmt::Display for Fault {
-    /// `stopped at` a place, or the refusal.
+    /// The refusal, where and why it stopped, or the counts that were read.
     fn fmt(&self, out: &mut fmt::Formatter) -> fmt::Result {
         match self {
             Fault::Refused(refused) => refused.fmt(out),
-            Fault::Stopped { place } => write!(out, "stopped at {place}"),
+            Fault::Stopped(halt) => halt.fmt(out),
+            Fault::NotEqual { areas, symbols } => {
+                write!(out, "finished not equal: read {areas} areas and {symbols} symbols, the H line tells others")
+            }
         }
     }
 }

@@ -16,6 +16,16 @@ pub(crate) struct ReadNumbers {
     pub fixups: usize,
 }
 
+/// The ended reading's answer as numbers: a reading's; why it stopped and where its line came to a
+/// halt, or 0; and 1 equal, 2 not equal, 3 not told, of the H line's counts.
+#[repr(C)]
+pub(crate) struct EndedNumbers {
+    pub read: ReadNumbers,
+    pub reason: u32,
+    pub counted: u32,
+    pub halt: usize,
+}
+
 /// What a header tells, as numbers.
 #[repr(C)]
 pub(crate) struct HeaderNumbers {
@@ -62,8 +72,8 @@ pub struct Rooms {
     pub fixups: usize,
 }
 
-/// The type of both readings.
-type Read = unsafe extern "C" fn(
+/// The type of a reading with this answer.
+type Read<Answer> = unsafe extern "C" fn(
     text: *const u8,
     text_len: usize,
     areas: *mut u32,
@@ -76,7 +86,7 @@ type Read = unsafe extern "C" fn(
     masks_len: usize,
     fixups: *mut u32,
     fixups_len: usize,
-) -> ReadNumbers;
+) -> Answer;
 
 extern "C" {
     /// The plain reading.
@@ -108,7 +118,7 @@ extern "C" {
         masks_len: usize,
         fixups: *mut u32,
         fixups_len: usize,
-    ) -> ReadNumbers;
+    ) -> EndedNumbers;
     /// A text's header.
     fn gatecobalt_header(text: *const u8, text_len: usize) -> HeaderNumbers;
     /// The target of a fixup.
@@ -136,7 +146,7 @@ extern "C" {
 }
 
 /// One of the readings.
-fn read(reading: Read, text: &[u8], lent: &mut Lent) -> ReadNumbers {
+fn read<Answer>(reading: Read<Answer>, text: &[u8], lent: &mut Lent) -> Answer {
     // SAFETY: `reading` is one of the two declared above. It is passed six slices with their
     // lengths; five are borrowed for writing alone, so no two of the six overlap.
     unsafe {
@@ -163,7 +173,7 @@ pub(crate) fn read_plain(text: &[u8], lent: &mut Lent) -> ReadNumbers {
 }
 
 /// The ended reading of a text.
-pub(crate) fn read_ended(text: &[u8], lent: &mut Lent) -> ReadNumbers {
+pub(crate) fn read_ended(text: &[u8], lent: &mut Lent) -> EndedNumbers {
     read(gatecobalt_read_ended, text, lent)
 }
 

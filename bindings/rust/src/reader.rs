@@ -43,7 +43,8 @@ impl Reader {
         }
     }
 
-    /// Reads a module to its last byte, every record with its line end; or says why that is not so.
+    /// Reads a module to its last byte, every record with its line end, and holds the counts of its H
+    /// line, if it tells any, to what was read; or says why it is not whole.
     pub fn whole<'a>(&'a mut self, text: &'a [u8]) -> Result<Module<'a>, NotWhole<'a>> {
         self.lent().whole(text)
     }

@@ -1,5 +1,5 @@
 //! What is whole and what is not: every cut of a module, refusals, and the plain reading beside them.
-use gatecobalt::{rooms, Fault, Lent, NotWhole, Reader, Reference, Refers, Refusal, Refused};
+use gatecobalt::{rooms, Counted, Fault, Lent, NotWhole, Reader, Reason, Reference, Refers, Refusal, Refused};
 
 /// A small module with two fixups.
 const DEMO: &[u8] = include_bytes!("../../c/demo.rel");
@@ -10,6 +10,10 @@ fn record_ends() -> Vec<usize> {
     ends.remove(ends.len() - 2);
     ends
 }
+
+/// The places behind the demo's H line, and behind its last S line.
+const H_LINE: usize = 31;
+const LAST_SYMBOL: usize = 97;
 
 /// A text that is refused with this, at this place.
 fn refused(refusal: Refusal, place: usize) -> Fault {
@@ -30,9 +34,20 @@ fn every_cut_is_told_but_behind_a_record() {
             (None, Err(NotWhole::Refused(bad))) => {
                 assert_eq!(Fault::Refused(bad), refused(Refusal::NoHeader, 0));
             }
-            (Some(end), Ok(module)) => assert_eq!((*end, module.header().width), (cut, 3)),
+            (Some(end), Ok(module)) => {
+                assert_eq!((*end, module.header().width), (cut, 3));
+                // Before the H line was read nothing is told; behind the last S line the counts are equal.
+                assert_eq!(module.counted(), if cut < H_LINE { Counted::NotTold } else { Counted::Equal });
+                assert!(cut < H_LINE || cut >= LAST_SYMBOL, "cut at {cut}");
+            }
+            (Some(end), Err(NotWhole::NotEqual(read))) => {
+                assert!(*end == cut && (H_LINE..LAST_SYMBOL).contains(&cut), "cut at {cut}");
+                assert!(read.as_read().counts().symbols < 2);
+            }
             (Some(end), Err(NotWhole::Stopped(stopped))) => {
                 assert!(*end < cut && stopped.place() == *end, "cut at {cut}");
+                assert!((*end..=cut).contains(&stopped.halt().place), "cut at {cut}");
+                assert!([Reason::NoDigit, Reason::CannotGoOn].contains(&stopped.reason()));
             }
             (end, read) => panic!("cut at {cut}, last record's end {end:?}: {read:?}"),
         }
@@ -88,7 +103,12 @@ fn refusals_have_their_numbers_and_places() {
 fn a_fault_says_what_and_where() {
     let said = |text| fault(text).map(|fault| fault.to_string());
     assert_eq!(said(DEMO), None);
-    assert_eq!(said(b"XH3\nM x"), Some("stopped at 4".into()));
+    let stopped = "stopped at 4 reason 4: the line cannot go on like this, at 7";
+    assert_eq!(said(b"XH3\nM x"), Some(stopped.into()));
+    let no_digit = "stopped at 4 reason 1: a number is due, and there is no digit, at 11";
+    assert_eq!(said(b"XH3\nS a RefG\n"), Some(no_digit.into()));
+    let not_equal = "finished not equal: read 0 areas and 1 symbols, the H line tells others";
+    assert_eq!(said(b"XH3\nH 1 areas 1 global symbols\nS a Ref0\n"), Some(not_equal.into()));
     assert_eq!(said(b"XH3"), Some("refused 4 at 0: no header".into()));
 }
 

@@ -46,6 +46,11 @@ fn is_as(word: &[u8; 8]) -> bool {
     word[1] == b'-' && word[2] == b'a' && word[3] == b's'
 }
 
+// Whether a word begins as --why does.
+fn is_why(word: &[u8; 8]) -> bool {
+    word[0] == b'-' && word[1] == b'-' && word[2] == b'w' && word[3] == b'h' && word[4] == b'y'
+}
+
 // What a word of n bytes is that begins with a dash.
 fn option(word: &[u8; 8], n: usize) -> Word {
     if n == 1 {
@@ -92,9 +97,9 @@ fn turn_at(i: usize, count: usize) -> Turn {
     }
 }
 
-// What the arguments ask for: the first that is neither a name nor an --as decides.
-pub fn asked(count: usize) -> Request {
-    let mut i = 1;
+// What the arguments from one on ask for: the first that is neither a name nor an --as decides.
+pub fn asked_from(first: usize, count: usize) -> Request {
+    let mut i = first;
     while i < count {
         match turn_at(i, count) {
             Turn::On(more) => {
@@ -106,6 +111,21 @@ pub fn asked(count: usize) -> Request {
         }
     }
     Request::Work(count)
+}
+
+// What all arguments ask for.
+pub fn asked(count: usize) -> Request {
+    asked_from(1, count)
+}
+
+// Whether the first argument asks why: --why.
+pub fn asks_why(count: usize) -> bool {
+    if count <= 1 {
+        return false;
+    }
+    let mut word = [0u8; 8];
+    let n = os::arg(1, &mut word);
+    n == 5 && is_why(&word)
 }
 
 // The file that argument i names, alone or with the two behind it; the options end before argument `end`.

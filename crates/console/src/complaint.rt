@@ -40,6 +40,27 @@ fn tell_number(name: &[u8], number: usize, place: usize) {
     write_line(s4, &line)
 }
 
+// A name, and some words.
+fn tell_words(name: &[u8], words: &[u8]) {
+    let mut line = io::large_buffer();
+    let s1 = texts::name(sink::new(), &mut line, name);
+    let s2 = sink::put(s1, &mut line, b": ");
+    let s3 = sink::put(s2, &mut line, words);
+    let s4 = sink::put(s3, &mut line, b"\n");
+    write_line(s4, &line)
+}
+
+// Tells words of a module, behind what was listed before.
+pub fn tell(s: Sink, out: &Buffer, name: &[u8], words: &[u8]) -> Sink
+    ensures { λ r. ⌜ Written s r ⌝ }
+{
+    let t = sink::flush(s, out);
+    if !t.broken {
+        tell_words(name, words);
+    }
+    t
+}
+
 // Tells why the last call failed, behind what was listed before.
 pub fn complain(s: Sink, out: &Buffer, name: &[u8]) -> Sink
     ensures { λ r. ⌜ Written s r ⌝ }

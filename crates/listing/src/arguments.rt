@@ -1,5 +1,6 @@
 // What the program's arguments ask for.
 use crate::help;
+use crate::how::How;
 use crate::source;
 use console::Operand;
 use console::Request;
@@ -13,17 +14,17 @@ fn too_long(s: Sink, out: &Buffer, name: &mut [u8]) -> Sink {
 }
 
 // Lists a file under the name that an argument gives.
-fn list_shown(ended: bool, s: Sink, out: &mut Buffer, file: &[u8], shown: usize) -> Sink {
+fn list_shown(how: How, s: Sink, out: &mut Buffer, file: &[u8], shown: usize) -> Sink {
     let mut name = io::buffer();
     let n = os::arg(shown, &mut name);
     if os::errno() != 0 {
         return too_long(s, out, &mut name);
     }
-    source::list_file(ended, s, out, file, &name[..n])
+    source::list_file(how, s, out, file, &name[..n])
 }
 
 // Lists the file that an argument names, under its own or another argument's name.
-fn list_operand(ended: bool, s: Sink, out: &mut Buffer, operand: Operand) -> Sink {
+fn list_operand(how: How, s: Sink, out: &mut Buffer, operand: Operand) -> Sink {
     if s.broken {
         return s;
     }
@@ -32,12 +33,12 @@ fn list_operand(ended: bool, s: Sink, out: &mut Buffer, operand: Operand) -> Sin
     if os::errno() != 0 {
         return too_long(s, out, &mut file);
     }
-    list_shown(ended, s, out, &file[..n], operand.shown)
+    list_shown(how, s, out, &file[..n], operand.shown)
 }
 
 // Lists what an argument names; the one at which the options end names nothing.
 fn list_argument(
-    ended: bool,
+    how: How,
     s: Sink,
     out: &mut Buffer,
     operand: Operand,
@@ -47,36 +48,50 @@ fn list_argument(
     if i == end {
         return s;
     }
-    list_operand(ended, s, out, operand)
+    list_operand(how, s, out, operand)
 }
 
-// Lists the files that the arguments name, one after the other.
-fn list_arguments(ended: bool, s: Sink, out: &mut Buffer, end: usize, count: usize) -> Sink {
+// Lists the files that the arguments from one on name, one after the other.
+fn list_arguments(
+    how: How,
+    s: Sink,
+    out: &mut Buffer,
+    first: usize,
+    end: usize,
+    count: usize,
+) -> Sink {
     let mut now = s;
-    let mut i = 1;
+    let mut i = first;
     while i < count {
         let operand = console::operand_at(i, end);
-        now = list_argument(ended, now, out, operand, i, end);
+        now = list_argument(how, now, out, operand, i, end);
         i = sink::end_of(i + 1, operand.more, count);
     }
     now
 }
 
-// Lists by the arguments, or standard input where they name nothing.
-fn list(ended: bool, s: Sink, out: &mut Buffer, end: usize, count: usize) -> Sink {
-    if count <= 1 || (count == 2 && end == 1) {
-        return source::list_standard(ended, s, out);
+// Whether the arguments from one on name nothing; the options end before argument `end`.
+fn names_nothing(first: usize, end: usize, count: usize) -> bool {
+    if count <= first {
+        return true;
     }
-    list_arguments(ended, s, out, end, count)
+    count - first == 1 && end == first
 }
 
-// Does what the arguments ask for, and writes what still waits then.
-fn answered(ended: bool, out: &mut Buffer) {
-    let count = os::arg_count();
-    match console::asked(count) {
-        Request::Work(end) => written(list(ended, sink::new(), out, end, count), out),
-        Request::Help => help::help(ended),
-        Request::Unknown(i) => help::tell_unknown(ended, i),
+// Lists by the arguments, or standard input where they name nothing.
+fn list(how: How, s: Sink, out: &mut Buffer, first: usize, end: usize, count: usize) -> Sink {
+    if names_nothing(first, end, count) {
+        return source::list_standard(how, s, out);
+    }
+    list_arguments(how, s, out, first, end, count)
+}
+
+// Does what the arguments from one on ask for, and writes what still waits then.
+fn answered(how: How, out: &mut Buffer, first: usize, count: usize) {
+    match console::asked_from(first, count) {
+        Request::Work(end) => written(list(how, sink::new(), out, first, end, count), out),
+        Request::Help => help::help(how.ended),
+        Request::Unknown(i) => help::tell_unknown(how.ended, i),
     }
 }
 
@@ -85,8 +100,18 @@ fn written(s: Sink, out: &Buffer) {
     sink::flush(s, out);
 }
 
-// The whole program.
+// The whole program. Only the ended reading knows why it stopped.
 pub(crate) fn run(ended: bool) {
     let mut out = io::large_buffer();
-    answered(ended, &mut out)
+    let count = os::arg_count();
+    let why = ended && console::asks_why(count);
+    let how = How {
+        ended: ended,
+        why: why,
+    };
+    if why {
+        answered(how, &mut out, 2, count)
+    } else {
+        answered(how, &mut out, 1, count)
+    }
 }

@@ -7,8 +7,9 @@ fn usage(ended: bool) -> bool {
     if ended {
         return io::write_all(
             STDOUT_FILENO,
-            b"usage: list [--] [FILE | --as NAME FILE]...\n\
-              Lists object modules by the ended reading: a line counts only if its line end stands behind it.\n",
+            b"usage: list [--why] [--] [FILE | --as NAME FILE]...\n\
+              Lists object modules by the ended reading: a line counts only if its line end stands behind it.\n\
+              --why shows behind the listing of a module that is stopped or refused the line, with a caret where it came to a halt.\n",
         );
     }
     io::write_all(
@@ -28,7 +29,10 @@ fn lines() -> bool {
           module comes from standard input. A control byte in a name is shown as \\xHH.\n\
           \n\
           areas N symbols N lines N   how many A and S lines, and T and R pairs\n\
-          finished, stopped at PLACE  no byte is left, or the place of the first that is (list)\n\
+          finished                    no byte is left (list)\n\
+          stopped at PLACE reason N   the place of the first byte that is left, and why the line there came to a halt:\n\
+          .. not equal                1 no digit, 2 over 32 bits, 3 over 255, 4 anything else; and where the counts in the\n\
+                                      H line are not those of the A and S lines (list)\n\
           plain reading ended at N of M   N of M bytes were read, which is no verdict (list_plain)\n\
           area INDEX id ID ..         an area with code, relocatable or absolute with its base, and its size\n\
           POSITION VALUE/MASK ..      its bytes, eight a row; mask FF: known, 00: not known\n\
@@ -37,8 +41,8 @@ fn lines() -> bool {
           refused NUMBER at PLACE     nothing is listed\n\
           \n\
           Counts, ids, sizes and places are decimal, the rest is hex. Places count bytes from 0.\n\
-          Standard error has a line for each module that is stopped (list) or refused, and for each name that cannot be\n\
-          read. With list it stays empty exactly if every module is whole.\n",
+          Standard error has a line for each module that is stopped or not equal (list) or refused, and for each name that\n\
+          cannot be read. With list it stays empty exactly if every module is whole.\n",
     )
 }
 
@@ -75,7 +79,10 @@ pub(crate) fn help(ended: bool) {
 pub(crate) fn tell_unknown(ended: bool, i: usize) {
     console::tell_option(i);
     if ended {
-        io::write_all(STDERR_FILENO, b"usage: list [FILE]..., or list --help\n");
+        io::write_all(
+            STDERR_FILENO,
+            b"usage: list [--why] [FILE]..., or list --help\n",
+        );
     } else {
         io::write_all(
             STDERR_FILENO,

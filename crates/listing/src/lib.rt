@@ -4,9 +4,11 @@ mod area;
 mod arguments;
 mod fixup;
 mod help;
+mod how;
 mod module;
 mod source;
 mod symbol;
+mod why;
 
 // Lists the modules that the arguments name, or the one on standard input where there are none, by
 // the ended or the plain reading.

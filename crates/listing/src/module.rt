@@ -1,17 +1,55 @@
 // The listing of one module's text.
 use crate::area;
-use reading::Answer;
+use crate::how::How;
+use crate::why;
+use counts_of::Counted;
+use ended::Verdict;
 use reading::Counts;
-use reading::Verdict;
 use sink::Buffer;
 use sink::Sink;
 
-// The line of a refusal, which is told on standard error as well.
-fn refusal(s: Sink, out: &mut Buffer, name: &[u8], number: usize, place: usize) -> Sink {
+// What a reading gave: a refusal; or the counts, and the ended reading's verdict with the H line's word, or the place where the
+// plain reading ended.
+enum Given {
+    Refused {
+        number: u32,
+        place: usize,
+    },
+    Ended {
+        counts: Counts,
+        verdict: Verdict,
+        counted: Counted,
+    },
+    Plain {
+        counts: Counts,
+        place: usize,
+    },
+}
+
+// The line of a refusal.
+fn refusal_line(s: Sink, out: &mut Buffer, number: usize, place: usize) -> Sink {
     let s1 = texts::decimal(s, out, b"refused ", number);
     let s2 = texts::decimal(s1, out, b" at ", place);
-    let s3 = sink::put(s2, out, b"\n");
-    console::tell_refused(s3, out, name, number, place)
+    sink::put(s2, out, b"\n")
+}
+
+// A refusal, which is told on standard error as well.
+fn refusal(
+    how: How,
+    s: Sink,
+    out: &mut Buffer,
+    text: &[u8],
+    name: &[u8],
+    number: u32,
+    place: usize,
+) -> Sink {
+    let s1 = refusal_line(s, out, cells::wide(number), place);
+    let s2 = if how.why {
+        why::refused(s1, out, text, number, place)
+    } else {
+        s1
+    };
+    console::tell_refused(s2, out, name, cells::wide(number), place)
 }
 
 // How many areas, symbols and T and R pairs there are.
@@ -22,22 +60,27 @@ fn summary(s: Sink, out: &mut Buffer, counts: Counts) -> Sink {
     sink::put(s3, out, b"\n")
 }
 
-// The ended reading's verdict: whether a byte is left, and where.
-fn verdict_line(s: Sink, out: &mut Buffer, verdict: Verdict) -> Sink {
+// The ended reading's verdict: whether a byte is left, where, and why.
+fn verdict_words(s: Sink, out: &mut Buffer, verdict: Verdict) -> Sink {
     match verdict {
-        Verdict::Finished => sink::put(s, out, b"finished\n"),
-        Verdict::Stopped { place } => {
+        Verdict::Finished => sink::put(s, out, b"finished"),
+        Verdict::Stopped {
+            place,
+            reason,
+            halt: _,
+        } => {
             let t = texts::decimal(s, out, b"stopped at ", place);
-            sink::put(t, out, b"\n")
+            texts::decimal(t, out, b" reason ", reason as usize)
         }
     }
 }
 
-// Where a reading of n bytes ended.
-fn place_of(verdict: Verdict, n: usize) -> usize {
-    match verdict {
-        Verdict::Finished => n,
-        Verdict::Stopped { place } => place,
+// The verdict, and whether the H line tells other counts.
+fn words(s: Sink, out: &mut Buffer, verdict: Verdict, counted: Counted) -> Sink {
+    let t = verdict_words(s, out, verdict);
+    match counted {
+        Counted::NotEqual => sink::put(t, out, b" not equal"),
+        _ => t,
     }
 }
 
@@ -48,28 +91,89 @@ fn ending_line(s: Sink, out: &mut Buffer, place: usize, n: usize) -> Sink {
     sink::put(s2, out, b"\n")
 }
 
-// The second line.
-fn second(ended: bool, s: Sink, out: &mut Buffer, verdict: Verdict, n: usize) -> Sink {
-    if ended {
-        return verdict_line(s, out, verdict);
+// Whether a module is whole: finished, and its counts not told otherwise.
+fn is_whole(verdict: Verdict, counted: Counted) -> bool {
+    match counted {
+        Counted::NotEqual => false,
+        _ => match verdict {
+            Verdict::Finished => true,
+            _ => false,
+        },
     }
-    ending_line(s, out, place_of(verdict, n), n)
 }
 
-// Tells on standard error of a module that the ended reading did not finish.
-fn told(ended: bool, s: Sink, out: &Buffer, name: &[u8], verdict: Verdict) -> Sink {
+// Tells the words that wait in a buffer of their own.
+fn tell(s: Sink, out: &Buffer, name: &[u8], waits: Sink, line: &Buffer) -> Sink {
+    console::tell(s, out, name, sink::first_bytes(line, waits.used))
+}
+
+// Tells on standard error what the second line says of a module that is not whole.
+fn told(s: Sink, out: &Buffer, name: &[u8], verdict: Verdict, counted: Counted) -> Sink {
+    if is_whole(verdict, counted) {
+        return s;
+    }
+    let mut line = io::large_buffer();
+    let w = words(sink::new(), &mut line, verdict, counted);
+    tell(s, out, name, w, &line)
+}
+
+// The line at which the reading stopped, where it is asked for.
+fn halted(how: How, s: Sink, out: &mut Buffer, text: &[u8], verdict: Verdict) -> Sink {
+    if !how.why {
+        return s;
+    }
     match verdict {
         Verdict::Finished => s,
-        Verdict::Stopped { place } => {
-            if ended {
-                return console::tell_stopped(s, out, name, place);
-            }
-            s
-        }
+        Verdict::Stopped {
+            place: _,
+            reason,
+            halt,
+        } => why::stopped(s, out, text, reason, halt),
     }
 }
 
-// The text's answer and its rows, by the ended or the plain reading.
+// What the ended reading gave.
+fn of_ended(answer: ended::Answer) -> Given {
+    match answer {
+        ended::Answer::Refusal { number, place } => Given::Refused {
+            number: number,
+            place: place,
+        },
+        ended::Answer::Accepted {
+            counts,
+            verdict,
+            counted,
+        } => Given::Ended {
+            counts: counts,
+            verdict: verdict,
+            counted: counted,
+        },
+    }
+}
+
+// Where a plain reading of n bytes ended.
+fn place_of(verdict: reading::Verdict, n: usize) -> usize {
+    match verdict {
+        reading::Verdict::Finished => n,
+        reading::Verdict::Stopped { place } => place,
+    }
+}
+
+// What the plain reading of n bytes gave.
+fn of_plain(answer: reading::Answer, n: usize) -> Given {
+    match answer {
+        reading::Answer::Refusal { number, place } => Given::Refused {
+            number: number,
+            place: place,
+        },
+        reading::Answer::Accepted { counts, verdict } => Given::Plain {
+            counts: counts,
+            place: place_of(verdict, n),
+        },
+    }
+}
+
+// What the ended or the plain reading gives of a text, and its rows.
 fn read(
     ended: bool,
     text: &[u8],
@@ -78,23 +182,26 @@ fn read(
     values: &mut [u8; 65536],
     masks: &mut [u8; 65536],
     fixups: &mut [u32; 9216],
-) -> Answer {
+) -> Given {
     if ended {
-        reading::read_ended(text, areas, symbols, values, masks, fixups)
+        of_ended(ended::read_ended(text, areas, symbols, values, masks, fixups))
     } else {
-        reading::read_plain(text, areas, symbols, values, masks, fixups)
+        of_plain(
+            reading::read_plain(text, areas, symbols, values, masks, fixups),
+            text.len(),
+        )
     }
 }
 
 // A text's whole listing, and what standard error is told of a module of this name.
-pub(crate) fn list(ended: bool, s: Sink, out: &mut Buffer, text: &[u8], name: &[u8]) -> Sink {
+pub(crate) fn list(how: How, s: Sink, out: &mut Buffer, text: &[u8], name: &[u8]) -> Sink {
     let mut areas = [0u32; 384];
     let mut symbols = [0u32; 5120];
     let mut values = [0u8; 65536];
     let mut masks = [0u8; 65536];
     let mut fixups = [0u32; 9216];
-    let answer = read(
-        ended,
+    let given = read(
+        how.ended,
         text,
         &mut areas,
         &mut symbols,
@@ -102,13 +209,18 @@ pub(crate) fn list(ended: bool, s: Sink, out: &mut Buffer, text: &[u8], name: &[
         &mut masks,
         &mut fixups,
     );
-    match answer {
-        Answer::Refusal { number, place } => refusal(s, out, name, cells::wide(number), place),
-        Answer::Accepted { counts, verdict } => {
+    match given {
+        Given::Refused { number, place } => refusal(how, s, out, text, name, number, place),
+        Given::Ended {
+            counts,
+            verdict,
+            counted,
+        } => {
             let s1 = summary(s, out, counts);
-            let s2 = second(ended, s1, out, verdict, text.len());
-            let s3 = area::lines(
-                s2,
+            let s2 = words(s1, out, verdict, counted);
+            let s3 = sink::put(s2, out, b"\n");
+            let s4 = area::lines(
+                s3,
                 out,
                 text,
                 counts,
@@ -118,7 +230,23 @@ pub(crate) fn list(ended: bool, s: Sink, out: &mut Buffer, text: &[u8], name: &[
                 &masks,
                 &fixups,
             );
-            told(ended, s3, out, name, verdict)
+            let s5 = halted(how, s4, out, text, verdict);
+            told(s5, out, name, verdict, counted)
+        }
+        Given::Plain { counts, place } => {
+            let s1 = summary(s, out, counts);
+            let s2 = ending_line(s1, out, place, text.len());
+            area::lines(
+                s2,
+                out,
+                text,
+                counts,
+                &areas,
+                &symbols,
+                &values,
+                &masks,
+                &fixups,
+            )
         }
     }
 }

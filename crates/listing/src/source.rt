@@ -1,4 +1,5 @@
 // Where texts come from: standard input, which is called `-`, and files by name.
+use crate::how::How;
 use crate::module;
 use console::Input;
 use console::Room;
@@ -6,8 +7,8 @@ use sink::Buffer;
 use sink::Sink;
 
 // Lists the first n bytes of the room.
-fn list_first(ended: bool, s: Sink, out: &mut Buffer, room: &Room, n: usize, name: &[u8]) -> Sink {
-    module::list(ended, s, out, sink::first_bytes(room, n), name)
+fn list_first(how: How, s: Sink, out: &mut Buffer, room: &Room, n: usize, name: &[u8]) -> Sink {
+    module::list(how, s, out, sink::first_bytes(room, n), name)
 }
 
 // The line with a module's name, over its listing.
@@ -20,20 +21,20 @@ fn title(s: Sink, out: &mut Buffer, name: &[u8], titled: bool) -> Sink {
 }
 
 // Lists the text that a descriptor gives.
-fn list_input(ended: bool, s: Sink, out: &mut Buffer, fd: i32, name: &[u8], titled: bool) -> Sink {
+fn list_input(how: How, s: Sink, out: &mut Buffer, fd: i32, name: &[u8], titled: bool) -> Sink {
     let mut room = [0u8; 65537];
     match console::fill(fd, &mut room) {
         Input::Failed => console::complain(s, out, name),
         Input::Text(n) => {
             let t = title(s, out, name, titled);
-            list_first(ended, t, out, &room, n, name)
+            list_first(how, t, out, &room, n, name)
         }
     }
 }
 
 // Lists the module on standard input.
-pub(crate) fn list_standard(ended: bool, s: Sink, out: &mut Buffer) -> Sink {
-    list_input(ended, s, out, libc::STDIN_FILENO, b"-", false)
+pub(crate) fn list_standard(how: How, s: Sink, out: &mut Buffer) -> Sink {
+    list_input(how, s, out, libc::STDIN_FILENO, b"-", false)
 }
 
 // Whether a file's name stands for standard input.
@@ -50,15 +51,15 @@ fn unopened(s: Sink, out: &Buffer, name: &[u8]) -> Sink {
 }
 
 // Lists the module of a file under a line with a name.
-pub(crate) fn list_file(ended: bool, s: Sink, out: &mut Buffer, file: &[u8], name: &[u8]) -> Sink {
+pub(crate) fn list_file(how: How, s: Sink, out: &mut Buffer, file: &[u8], name: &[u8]) -> Sink {
     if is_standard(file) {
-        return list_input(ended, s, out, libc::STDIN_FILENO, name, true);
+        return list_input(how, s, out, libc::STDIN_FILENO, name, true);
     }
     let fd = os::open_read(file);
     if fd < 0 {
         return unopened(s, out, name);
     }
-    let t = list_input(ended, s, out, fd, name, true);
+    let t = list_input(how, s, out, fd, name, true);
     libc::close(fd);
     t
 }

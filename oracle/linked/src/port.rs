@@ -17,6 +17,9 @@ pub struct Read {
     pub kept: usize,
     pub positions: usize,
     pub fixups: usize,
+    pub reason: u32,
+    pub counted: u32,
+    pub halt: usize,
 }
 
 /// A refusal, or 0 and a target.

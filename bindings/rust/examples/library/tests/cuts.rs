@@ -88,5 +88,5 @@ fn ids_count_on() {
     let refers = library.segments.iter().map(|segment| segment.fixups[1].reference.clone());
     let counted = [Reference::Segment(0, 0), Reference::Segment(1, 0)];
     assert_eq!(refers.collect::<Vec<_>>(), counted);
-    assert_eq!(library.faults, [(Some("cut.rel".into()), "stopped at 97".to_string())]);
+    assert_eq!(library.faults, [(Some("cut.rel".into()), "stopped at 97 reason 4: the line cannot go on like this, at 163".to_string())]);
 }

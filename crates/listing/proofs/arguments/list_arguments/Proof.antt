@@ -5,10 +5,10 @@ use Rattle.listing.proofs.arguments.list_arguments.Statement.{statement
 use Rattle.listing.proofs.arguments.list_arguments.Tie as tie
 
 abbrev Inv-loop : tie.InvT-loop
-Inv-loop ended out₀ end count now₀ i₀ out now i = Unit {0}
+Inv-loop how out₀ first end count now₀ i₀ out now i = Unit {0}
 
 abbrev μ-loop : tie.MeasureT-loop
-μ-loop ended out₀ end count now₀ i₀ out now i = count - i
+μ-loop how out₀ first end count now₀ i₀ out now i = count - i
 
 loop-holds : tie.Need-loop-holds Inv-loop μ-loop
 loop-holds c = search needs

@@ -1,17 +1,13 @@
 use borrow.Author.Needs.{needs}
 use Prim.Native.Nat.{_-_}
-use Rattle.console.proofs.arguments.asked.Statement.{statement}
-use Rattle.console.proofs.arguments.asked.Tie as tie
-use Rattle.console.proofs.arguments.asked.Reads as reads
-use Rattle.console.proofs.arguments.asked.Lts as lts
-use Rattle.console.proofs.arguments.turn_at.Reads as turn-at-reads
-use Rattle.sink.proofs.end_of.Reads as end-of-reads
+use Rattle.console.proofs.arguments.asked_from.Statement.{statement}
+use Rattle.console.proofs.arguments.asked_from.Tie as tie
 
 abbrev Inv-loop : tie.InvT-loop
-Inv-loop count i₀ i = Unit {0}
+Inv-loop first count i₀ i = Unit {0}
 
 abbrev μ-loop : tie.MeasureT-loop
-μ-loop count i₀ i = count - i
+μ-loop first count i₀ i = count - i
 
 loop-holds : tie.Need-loop-holds Inv-loop μ-loop
 loop-holds c = search needs
@@ -43,8 +39,8 @@ returns c = search needs
 returns-2 : tie.Need-returns-2 Inv-loop μ-loop
 returns-2 c = search needs
 
-pub asked-spec : {M : Type 1} → statement M
-asked-spec =
+pub asked-from-spec : {M : Type 1} → statement M
+asked-from-spec =
     tie.close
     (tie.spec
     Inv-loop
