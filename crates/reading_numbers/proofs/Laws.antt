@@ -40,13 +40,13 @@ pub ruleset numbers = (needs, finished-numbers, stopped-numbers, refusal-numbers
 
 -- `word_number`, `accepted_ended`, `ended_numbers`
 pub word-equal : {w : Counted} → w ≡ Equal → 1 ≡ wordNumber (toldCounted w)
-word-equal e = rw e
+word-equal e = sym (ap (λ (x : Counted). wordNumber (toldCounted x)) e)
 
 pub word-not-equal : {w : Counted} → w ≡ NotEqual → 2 ≡ wordNumber (toldCounted w)
-word-not-equal e = rw e
+word-not-equal e = sym (ap (λ (x : Counted). wordNumber (toldCounted x)) e)
 
 pub word-not-told : {w : Counted} → w ≡ NotTold → 3 ≡ wordNumber (toldCounted w)
-word-not-told e = rw e
+word-not-told e = sym (ap (λ (x : Counted). wordNumber (toldCounted x)) e)
 
 module _ {c : the.Counts} {v : ended.Verdict} {n : ReadNumbers} {word : ℕ} {r : EndedNumbers} where
   pub finished-ended : v ≡ ended-verdict.Finished → n ≡ countedNumbers c 1 0 → r ≡ withHalt n 0 0 word → r ≡ acceptedEnded c (ends.toldVerdict v) (ends.haltIn v) word
