@@ -35,7 +35,7 @@ high-take text zero at h = refl
 high-take [] (suc n) at h = refl
 high-take (b ∷ bs) (suc n) at h = high-step b at (firstHigh (suc at) bs) (firstHigh (suc at) (take n bs)) (leb 128 b) (high-take bs n (suc at)) h
 
-no-high : (o : Option ℕ) (k : ℕ) → noHigh o ≡ fine k → o ≡ none
+pub no-high : (o : Option ℕ) (k : ℕ) → noHigh o ≡ fine k → o ≡ none
 no-high none k h = refl
 no-high (some at) k h = unlike 3 at k h
 

@@ -20,7 +20,7 @@ use Rattle.manual.proofs.Takes.{always, no-space, stops-end, takes-give
 use Rattle.manual.proofs.Fields.{space-stops-digits, space-stops-names, spaced-append, takes-field, takes-titled}
 
 -- no addr
-takes-no-field : (at radix : ℕ) (w : List ℕ) → Takes (optional (field w radix)) at [] none isBlank
+pub takes-no-field : (at radix : ℕ) (w : List ℕ) → Takes (optional (field w radix)) at [] none isBlank
 unfolding optional field
 takes-no-field at radix w = record { takes = λ s rest d h. rw (no-space s at (ap (run isBlank) d ∙ h), add-zero) }
 

@@ -26,12 +26,12 @@ no-ref : (s : List ℕ) (at : ℕ) (w rest : List ℕ) → drop at s ≡ (68 ∷
 unfolding word behind starts
 no-ref s at w rest d = rw (d, eq-eqb at at refl)
 
-takes-kind : (at : ℕ) (ref : Bool) → Takes refOrDef at (spelled (kind ref)) ref never
+pub takes-kind : (at : ℕ) (ref : Bool) → Takes refOrDef at (spelled (kind ref)) ref never
 unfolding refOrDef
 takes-kind at true = record { takes = λ s rest d h. rw (takes-word at (spelled Ref) (omega arith) .takes s rest d h) }
 takes-kind at false = record { takes = λ s rest d h. rw (no-ref s at (101 ∷ 102 ∷ []) rest d, takes-word at (spelled Def) (omega arith) .takes s rest d h) }
 
-kind-stops : (ref : Bool) (w : List ℕ) → Stops isBlank always (spelled (kind ref) ++ w)
+pub kind-stops : (ref : Bool) (w : List ℕ) → Stops isBlank always (spelled (kind ref) ++ w)
 unfolding isBlank
 kind-stops true w = stops-cons isBlank always 82 (101 ∷ 102 ∷ w) refl
 kind-stops false w = stops-cons isBlank always 68 (101 ∷ 102 ∷ w) refl

@@ -1,0 +1,15 @@
+pub mod Shown
+pub mod Printed
+pub mod Lines
+pub mod Entries
+pub mod Laid
+pub mod Theorem
+pub mod Given
+pub mod GivenPairs
+pub mod Read
+pub mod Alike
+pub mod SameTables
+pub mod SamePlacing
+pub mod SameBuild
+pub mod ReadAgain
+pub mod Shapes
