@@ -1,0 +1,4 @@
+pub mod HeaderLength
+pub mod Uses
+pub mod Bounds
+pub mod Roomy

@@ -1,0 +1,1 @@
+// The rows of T and R records: a definition and its theorems, nothing to run.
