@@ -24,7 +24,7 @@ use Rattle.digits_out.specs.Wrote.{Wrote}
 use Rattle.digits_out.proofs.Laws.{place-in, then-wrote}
 use Rattle.content_out.specs.ContentOut.{contentOut, lowBytes}
 
-hex-append : (v w : List ℕ) → hexBytes (v ++ w) ≡ hexBytes v ++ hexBytes w
+pub hex-append : (v w : List ℕ) → hexBytes (v ++ w) ≡ hexBytes v ++ hexBytes w
 unfolding hexBytes
 hex-append [] w = refl
 hex-append (b ∷ v) w = ap (λ (l : List ℕ). 32 ∷ l) (ap (λ (l : List ℕ). hexDigits 2 b ++ l) (hex-append v w) ∙ sym (append-assoc (hexDigits 2 b) (hexBytes v) (hexBytes w)))
