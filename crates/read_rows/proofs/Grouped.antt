@@ -26,8 +26,13 @@ unfolding byArea
 by-append zero id xs ys = refl
 by-append (suc n) id xs ys =
     length-append (ofArea id (xs ++ ys)) (byArea n (suc id) (xs ++ ys))
-    ∙ omega (arith, ap length (of-append id xs ys) ∙ length-append (ofArea id xs) (ofArea id ys), by-append n (suc id) xs ys,
-    length-append (ofArea id xs) (byArea n (suc id) xs), length-append (ofArea id ys) (byArea n (suc id) ys))
+    ∙ omega (
+      arith,
+      ap length (of-append id xs ys) ∙ length-append (ofArea id xs) (ofArea id ys),
+      by-append n (suc id) xs ys,
+      length-append (ofArea id xs) (byArea n (suc id) xs),
+      length-append (ofArea id ys) (byArea n (suc id) ys),
+    )
 
 none-by : (n id : ℕ) → length (byArea n id []) ≡ 0
 unfolding byArea ofArea
