@@ -1,0 +1,2 @@
+pub mod LastWriter
+pub mod Example
