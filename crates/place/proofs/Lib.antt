@@ -4,5 +4,7 @@ pub mod WorkedLaws
 pub mod PlainPairLaws
 pub mod SiteLaws
 pub mod PairLaws
+pub mod CellLaws
+pub mod CellOf
 pub mod Use
 pub mod Unique

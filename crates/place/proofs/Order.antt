@@ -21,7 +21,7 @@ use Rattle.fixups.specs.Walk.{fixupsWalk}
 use Rattle.place.specs.Work.{turnOf, turns}
 
 -- 10 for each fragment and then its step, or 10 for all and then all steps: the same
-pub merged : (fm : Form) (n place k : ℕ) (fs : List Fragment) (d : defs.Worked) (f : defs.Worked → Outcome State)
+pub merged : {A : Type 0} (fm : Form) (n place k : ℕ) (fs : List Fragment) (d : defs.Worked) (f : defs.Worked → Outcome A)
     → andThen (fold (inLine (fm .addressLength) n place) k fs) (λ j. f (stepAll fm fs d)) ≡ andThen (turns (fm .addressLength) (fm .big) n place fs d) f
 unfolding fold inLine stepAll turns turnOf
 merged fm n place k [] d f = refl

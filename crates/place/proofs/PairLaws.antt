@@ -44,17 +44,17 @@ module _ (table ms : List ℕ) (start size : ℕ) (l : Line) (n : Filled) where
   sited-if id s true e h = record { id = id; ranks = refl; fitting = e; is = cc }
   sited-if id s false e h = unlike-found s at.Misfit h .0 refl
 
-  sited : (o : Option ℕ) (s : Site) → foundBy table ms start size l n o ≡ at.At s → Sited table ms start size l n o s
+  pub sited : (o : Option ℕ) (s : Site) → foundBy table ms start size l n o ≡ at.At s → Sited table ms start size l n o s
   sited none s h = unlike-found s at.Unkept h .1 refl
   sited (some id) s h = sited-if id s (imageFits table ms start size (l .fragments)) refl h
 
   -- an area that is not kept has no rank, and one that does not fit says so
-  unkept-by : (o : Option ℕ) (b : Bool) → imageFits table ms start size (l .fragments) ≡ b → foundBy table ms start size l n o ≡ at.Unkept → o ≡ none
+  pub unkept-by : (o : Option ℕ) (b : Bool) → imageFits table ms start size (l .fragments) ≡ b → foundBy table ms start size l n o ≡ at.Unkept → o ≡ none
   unkept-by none b e h = refl
   unkept-by (some id) true e h = let g = rw e at h in let z : _≡_ {A = ℕ} 0 1 = cc in absurd (omega arith)
   unkept-by (some id) false e h = let g = rw e at h in let z : _≡_ {A = ℕ} 0 1 = cc in absurd (omega arith)
 
-  misfit-by : (o : Option ℕ) (b : Bool) → imageFits table ms start size (l .fragments) ≡ b → foundBy table ms start size l n o ≡ at.Misfit → keptFits table ms start size (l .fragments) o ≡ false
+  pub misfit-by : (o : Option ℕ) (b : Bool) → imageFits table ms start size (l .fragments) ≡ b → foundBy table ms start size l n o ≡ at.Misfit → keptFits table ms start size (l .fragments) o ≡ false
   misfit-by none b e h = let z : _≡_ {A = ℕ} 0 1 = cc in absurd (omega arith)
   misfit-by (some id) true e h = let g = rw e at h in let z : _≡_ {A = ℕ} 0 1 = cc in absurd (omega arith)
   misfit-by (some id) false e h = e

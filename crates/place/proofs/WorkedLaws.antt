@@ -105,7 +105,7 @@ module _ (s : Site) (bs ms es : List ℕ) (h : s .line .bytes ≤ length bs) {wv
     (ev : wv ≡ padded (s .line .width) (s .line .bytes) (take (s .line .bytes) bs)) (em : wm ≡ padded (s .line .width) (s .line .bytes) (replicate (s .line .bytes) 255))
     (ek : wk ≡ padded (s .line .width) (s .line .bytes) (replicate (s .line .bytes) 1)) (ns : List ℕ)
     {q : Worked} {wv′ wm′ wk′ ns′ : List ℕ} (t : Whole (allTurns (s .line) ms es (lineOf wv wm wk ns 0)) (s .line .fragments) q wv′ wm′ wk′ ns′) where
-  from-fresh : Whole (allTurns (s .line) ms es (fresh (s .line .width) (take (s .line .bytes) bs))) (s .line .fragments) q wv′ wm′ wk′ ns′
+  pub from-fresh : Whole (allTurns (s .line) ms es (fresh (s .line .width) (take (s .line .bytes) bs))) (s .line .fragments) q wv′ wm′ wk′ ns′
   unfolding lineOf fresh workLine
   from-fresh = rw (length-take-le (s .line .bytes) bs h, ← ev, ← em, ← ek) t
 
@@ -119,7 +119,7 @@ module _ (s : Site) (bs ms es : List ℕ) (h : s .line .bytes ≤ length bs) {wv
     few = omega (arith, t .few, f .fragments);
   }
 
-pub ruleset preparing = (needs, prepared)
+pub ruleset preparing = (needs, prepared, from-fresh)
 
 -- ------------------------------------------------------------------ `place_fragments`
 

@@ -1,3 +1,4 @@
 pub mod Work
 pub mod Site
 pub mod Pair
+pub mod Cell

@@ -17,7 +17,7 @@ ghost use mathlib.Core.List.{List, [], _∷_, _++_};
 ghost use Prim.Native.Nat.{ℕ, _≤_, _<_, _+_};
 ghost use lib.ListN.{length, take, replicate, getD};
 ghost use Rattle.format.specs.Mode.{classOf, touchedOf};
-ghost use Rattle.format.specs.WorkLine.{padded};
+ghost use Rattle.format.specs.WorkLine.{padded, fresh};
 ghost use Rattle.mode.specs.Class.{toldClass};
 ghost use Rattle.classes.specs.Named.{Named, NamedAt};
 ghost use Rattle.sites.specs.Site.{Short};
@@ -185,6 +185,7 @@ pub(crate) fn work_line(
     requires { ⌜ Named (now table) (now ms) (site .line .fragments) ⌝ }
     requires { ⌜ (now wv ≡ replicate 260 0) × (now wm ≡ replicate 260 0) × (now wk ≡ replicate 260 0) ⌝ }
     ensures { λ r. ⌜ Prepared site (now (bs .entry)) (now (ms .entry)) (now (es .entry)) r (now (ns .exit)) (now (wv .exit)) (now (wm .exit)) (now (wk .exit)) ⌝ }
+    ensures { λ r. ⌜ Whole (allTurns (site .line) (now (ms .entry)) (now (es .entry)) (fresh (site .line .width) (take (site .line .bytes) (now (bs .entry))))) (site .line .fragments) r (now (wv .exit)) (now (wm .exit)) (now (wk .exit)) (now (ns .exit)) ⌝ }
 {
     start_line(site.line, bs, wv, wm, wk);
     work_all(table, site.line, ms, es, wv, wm, wk, ns)

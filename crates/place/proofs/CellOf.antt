@@ -1,0 +1,131 @@
+-- What the proofs of a pair's byte at its site and at any home share: a law for each return.
+-- Assumes nothing.
+use Prim.Native.Nat.{ℕ, _+_, _≤_}
+use mathlib.Core.Path.{_≡_, refl, sym, ap, _∙_}
+use mathlib.Core.Bool.{Bool, true, false, not, _&&_}
+use mathlib.Core.List.{List}
+use mathlib.Core.Option.{Option, none, some}
+use native.Mathlib.Omega.{arith}
+use lib.Dec.{eqb, leb}
+use lib.ListN.{length, take}
+use borrow.Author.Needs.{needs}
+use borrow.Author.Tests.{leb-true, not-true, not-false}
+use Rattle.format.specs.Lists.{pick}
+use Rattle.format.specs.Outcome.{Outcome, fine, refused, andThen}
+use Rattle.format.specs.Tables.{lastIndex}
+use Rattle.format.specs.WorkLine.{fresh}
+use Rattle.format.specs.WorkLine as defs
+use Rattle.cells.proofs.Both.{both-true}
+use Rattle.homes.specs.declared.Home.{Home}
+use Rattle.classes.specs.Named.{Named, names}
+use Rattle.classes.proofs.Named.{named-by}
+use Rattle.sites.specs.declared.Line.{Line}
+use Rattle.sites.specs.declared.Filled.{Filled}
+use Rattle.sites.specs.declared.Site.{Site}
+use Rattle.sites.specs.Columns.{fragmentsIn}
+use Rattle.sites.specs.Site.{lineFits, filledFits, Ready, Short}
+use Rattle.sites.proofs.Fitting.{Counted, counted}
+use Rattle.place.specs.declared.cell.Cell as code
+use Rattle.place.specs.declared.cell.Cell.the-variants.{Nothing, Beyond, Misfit}
+use Rattle.place.specs.declared.site.Found.{Found}
+use Rattle.place.specs.declared.site.Found.the-variants as at
+use Rattle.place.specs.declared.work_line.Worked.{Worked}
+use Rattle.place.specs.declared.work_line.Worked.the-variants as worked
+use Rattle.place.specs.Site.{imageFits, siteAt, foundBy, found}
+use Rattle.place.specs.Work.{lineOf, allTurns, Whole}
+use Rattle.place.specs.Pair.{formOf, keptFits}
+use Rattle.place.specs.Cell.{Left, leftAt, leftBy, leftIn, siteWork, told, cellFits, SoughtIn, SiteCell, CellIs}
+use Rattle.place.proofs.Order.{merged}
+use Rattle.place.proofs.PairLaws.{Sited, sited, unkept-by, misfit-by}
+
+-- `cell_at_site`: q is what the work line answered
+module _ (s : Site) (bs ms es : List ℕ) (want : ℕ) {q : Worked} {wv wm wk ns : List ℕ}
+    (t : Whole (allTurns (s .line) ms es (fresh (s .line .width) (take (s .line .bytes) bs))) (s .line .fragments) q wv wm wk ns) where
+  by-work : (xs : List ℕ) (o : Outcome defs.Worked) → o ≡ allTurns (s .line) ms es (fresh (s .line .width) (take (s .line .bytes) bs)) xs (s .line .place)
+      → leftBy (s .line) (s .size) bs ms es xs want ≡ andThen o (λ d. fine (leftAt (s .size) (d .work) (s .line .width + s .line .bytes) 0 (s .line .address) want))
+  unfolding leftBy siteWork allTurns
+  by-work xs o e =
+      merged (formOf 0 (s .line)) (s .line .bytes) (s .line .place) 0 (fragmentsIn ms es xs (s .line .fragments)) (fresh (s .line .width) (take (s .line .bytes) bs))
+      (λ d. fine (leftAt (s .size) (d .work) (s .line .width + s .line .bytes) 0 (s .line .address) want))
+      ∙ ap (λ (p : Outcome defs.Worked). andThen p (λ d. fine (leftAt (s .size) (d .work) (s .line .width + s .line .bytes) 0 (s .line .address) want))) (sym e)
+
+  pub cell-beyond : q ≡ worked.Beyond → SiteCell s bs ms es want Beyond
+  cell-beyond g = record { says = λ xs. ap some (sym (by-work xs _ (rw g at (t .says xs (s .line .place))))) }
+
+  pub cell-sought : {n : ℕ} → q ≡ worked.Numbers n → {r : code.Cell} → SoughtIn s want wv wm wk r → SiteCell s bs ms es want r
+  unfolding lineOf
+  cell-sought g a = record { says = λ xs. a .says (s .line .place) ∙ ap some (sym (by-work xs _ (rw g at (t .says xs (s .line .place))))) }
+
+pub cell-short : {s : Site} → Ready s → Short (s .line)
+cell-short r = r .line
+
+pub ruleset at-site = (needs, cell-short, cell-beyond, cell-sought)
+
+-- no row is in use
+abbrev pub none-filled : Filled
+none-filled = record { areas = 0; symbols = 0; fixups = 0 }
+
+-- `cell_of`: c is the test of the home and the counts
+module _ (table : List ℕ) (l : Line) (h : Home) (bs ms es : List ℕ) (want : ℕ) {c : Bool}
+    (ec : c ≡ (eqb (h .area) (l .area) && (lineFits l (length bs) && filledFits none-filled 9216))) where
+  cell-fits-is : (b : Bool) → keptFits table ms (h .start) (h .size) (l .fragments) (lastIndex (h .id)) ≡ b → cellFits table l h bs ms ≡ (c && b)
+  unfolding cellFits filledFits
+  cell-fits-is b e = rw (e, ec) (and-out (eqb (h .area) (l .area)) (lineFits l (length bs)) b)
+    where
+      and-out : (x y z : Bool) → (x && (y && z)) ≡ ((x && (y && true)) && z)
+      and-out true true z = refl
+      and-out true false z = refl
+      and-out false y z = refl
+
+  pub cell-misfit : not c ≡ true → CellIs table l h bs ms es want Misfit
+  cell-misfit k = record { says = λ xs. rw (cell-fits-is _ refl, not-true c k) }
+
+  module _ (k : not c ≡ false) where
+    facts : Counted l none-filled (length bs) 9216
+    facts = counted l none-filled (length bs) 9216 (both-true (eqb (h .area) (l .area)) _ (sym ec ∙ not-false c k) .1)
+
+    module _ {f : Found} (ef : f ≡ found table ms h l none-filled) where
+      found-is : {g : Found} → f ≡ g → foundBy table ms (h .start) (h .size) l none-filled (lastIndex (h .id)) ≡ g
+      unfolding found
+      found-is e = sym ef ∙ e
+
+      pub cell-unkept : f ≡ at.Unkept → CellIs table l h bs ms es want Nothing
+      cell-unkept e =
+          let o : lastIndex (h .id) ≡ none = unkept-by table ms (h .start) (h .size) l none-filled (lastIndex (h .id)) _ refl (found-is e) in
+          record { says = λ xs. rw (cell-fits-is true (rw o), not-false c k, o) }
+
+      pub cell-nowhere : f ≡ at.Misfit → CellIs table l h bs ms es want Misfit
+      cell-nowhere e =
+          let u : keptFits table ms (h .start) (h .size) (l .fragments) (lastIndex (h .id)) ≡ false = misfit-by table ms (h .start) (h .size) l none-filled (lastIndex (h .id)) _ refl (found-is e) in
+          record { says = λ xs. rw (cell-fits-is false u, not-false c k) }
+
+      module _ {s : Site} (g : f ≡ at.At s) where
+        here : Sited table ms (h .start) (h .size) l none-filled (lastIndex (h .id)) s
+        here = sited table ms (h .start) (h .size) l none-filled (lastIndex (h .id)) s (found-is g)
+
+        both : (leb (h .start + h .size) 65536 ≡ true) × (names table ms 0 (l .fragments) ≡ true)
+        unfolding imageFits
+        both = both-true _ _ (here .fitting)
+
+        pub cell-ready : Ready s
+        cell-ready = rw (here .is) (record {
+          line = facts .line;
+          areas = facts .areas;
+          symbols = facts .symbols;
+          fixups = facts .fixups;
+          inside = leb-true (h .start + h .size) 65536 (both .0);
+          numbers = omega arith;
+        })
+
+        pub cell-lent : s .line .bytes ≤ length bs
+        cell-lent = rw (here .is) (facts .bytes)
+
+        pub cell-named : Named table ms (s .line .fragments)
+        cell-named = rw (here .is) (named-by table ms (l .fragments) (both .1))
+
+        pub cell-found : {r : code.Cell} → SiteCell s bs ms es want r → CellIs table l h bs ms es want r
+        cell-found {r} a =
+            let b : SiteCell (siteAt l none-filled (here .id) (h .start) (h .size)) bs ms es want r = rw (here .is) at a in
+            record { says = λ xs. rw (cell-fits-is true (rw (here .ranks) (here .fitting)), not-false c k, here .ranks) (b .says xs) }
+
+pub ruleset cell-of = (needs, cell-misfit, cell-unkept, cell-nowhere, cell-ready, cell-lent, cell-named, cell-found)
