@@ -12,3 +12,4 @@ pub mod Unique
 pub mod Fill
 pub mod Parts
 pub mod Areas
+pub mod Decoded

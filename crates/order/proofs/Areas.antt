@@ -83,7 +83,7 @@ unfolding wrote writes
 a-pair-writes-inside-its-area fm t place end c r i h = inside-in fm t place c r (rank 0 (t .areas) (r .area)) i h
 
 -- no position lies in the images of two areas
-never-both : (areas : List Area) (i j k : ℕ) → (i ≡ j → ⊥) → Inside (offset areas i) (extent areas i) k → Inside (offset areas j) (extent areas j) k → ⊥
+pub never-both : (areas : List Area) (i j k : ℕ) → (i ≡ j → ⊥) → Inside (offset areas i) (extent areas i) k → Inside (offset areas j) (extent areas j) k → ⊥
 never-both areas i j k d a b = go (ltb i j) refl
   where
     go : (u : Bool) → ltb i j ≡ u → ⊥

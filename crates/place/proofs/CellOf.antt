@@ -41,20 +41,20 @@ use Rattle.place.proofs.PairLaws.{Sited, sited, unkept-by, misfit-by}
 -- `cell_at_site`: q is what the work line answered
 module _ (s : Site) (bs ms es : List ℕ) (want : ℕ) {q : Worked} {wv wm wk ns : List ℕ}
     (t : Whole (allTurns (s .line) ms es (fresh (s .line .width) (take (s .line .bytes) bs))) (s .line .fragments) q wv wm wk ns) where
-  by-work : (xs : List ℕ) (o : Outcome defs.Worked) → o ≡ allTurns (s .line) ms es (fresh (s .line .width) (take (s .line .bytes) bs)) xs (s .line .place)
-      → leftBy (s .line) (s .size) bs ms es xs want ≡ andThen o (λ d. fine (leftAt (s .size) (d .work) (s .line .width + s .line .bytes) 0 (s .line .address) want))
+  by-work : (xs : List ℕ) (radix : ℕ) (o : Outcome defs.Worked) → o ≡ allTurns (s .line) ms es (fresh (s .line .width) (take (s .line .bytes) bs)) xs (s .line .place)
+      → leftBy (s .line) (s .size) bs ms es xs radix want ≡ andThen o (λ d. fine (leftAt (s .size) (d .work) (s .line .width + s .line .bytes) 0 (s .line .address) want))
   unfolding leftBy siteWork allTurns
-  by-work xs o e =
-      merged (formOf 0 (s .line)) (s .line .bytes) (s .line .place) 0 (fragmentsIn ms es xs (s .line .fragments)) (fresh (s .line .width) (take (s .line .bytes) bs))
+  by-work xs radix o e =
+      merged (formOf radix (s .line)) (s .line .bytes) (s .line .place) 0 (fragmentsIn ms es xs (s .line .fragments)) (fresh (s .line .width) (take (s .line .bytes) bs))
       (λ d. fine (leftAt (s .size) (d .work) (s .line .width + s .line .bytes) 0 (s .line .address) want))
       ∙ ap (λ (p : Outcome defs.Worked). andThen p (λ d. fine (leftAt (s .size) (d .work) (s .line .width + s .line .bytes) 0 (s .line .address) want))) (sym e)
 
   pub cell-beyond : q ≡ worked.Beyond → SiteCell s bs ms es want Beyond
-  cell-beyond g = record { says = λ xs. ap some (sym (by-work xs _ (rw g at (t .says xs (s .line .place))))) }
+  cell-beyond g = record { says = λ xs radix. ap some (sym (by-work xs radix _ (rw g at (t .says xs (s .line .place))))) }
 
   pub cell-sought : {n : ℕ} → q ≡ worked.Numbers n → {r : code.Cell} → SoughtIn s want wv wm wk r → SiteCell s bs ms es want r
   unfolding lineOf
-  cell-sought g a = record { says = λ xs. a .says (s .line .place) ∙ ap some (sym (by-work xs _ (rw g at (t .says xs (s .line .place))))) }
+  cell-sought g a = record { says = λ xs radix. a .says (s .line .place) ∙ ap some (sym (by-work xs radix _ (rw g at (t .says xs (s .line .place))))) }
 
 pub cell-short : {s : Site} → Ready s → Short (s .line)
 cell-short r = r .line
@@ -78,7 +78,7 @@ module _ (table : List ℕ) (l : Line) (h : Home) (bs ms es : List ℕ) (want : 
       and-out false y z = refl
 
   pub cell-misfit : not c ≡ true → CellIs table l h bs ms es want Misfit
-  cell-misfit k = record { says = λ xs. rw (cell-fits-is _ refl, not-true c k) }
+  cell-misfit k = record { says = λ xs radix. rw (cell-fits-is _ refl, not-true c k) }
 
   module _ (k : not c ≡ false) where
     facts : Counted l none-filled (length bs) 9216
@@ -92,12 +92,12 @@ module _ (table : List ℕ) (l : Line) (h : Home) (bs ms es : List ℕ) (want : 
       pub cell-unkept : f ≡ at.Unkept → CellIs table l h bs ms es want Nothing
       cell-unkept e =
           let o : lastIndex (h .id) ≡ none = unkept-by table ms (h .start) (h .size) l none-filled (lastIndex (h .id)) _ refl (found-is e) in
-          record { says = λ xs. rw (cell-fits-is true (rw o), not-false c k, o) }
+          record { says = λ xs radix. rw (cell-fits-is true (rw o), not-false c k, o) }
 
       pub cell-nowhere : f ≡ at.Misfit → CellIs table l h bs ms es want Misfit
       cell-nowhere e =
           let u : keptFits table ms (h .start) (h .size) (l .fragments) (lastIndex (h .id)) ≡ false = misfit-by table ms (h .start) (h .size) l none-filled (lastIndex (h .id)) _ refl (found-is e) in
-          record { says = λ xs. rw (cell-fits-is false u, not-false c k) }
+          record { says = λ xs radix. rw (cell-fits-is false u, not-false c k) }
 
       module _ {s : Site} (g : f ≡ at.At s) where
         here : Sited table ms (h .start) (h .size) l none-filled (lastIndex (h .id)) s
@@ -126,6 +126,6 @@ module _ (table : List ℕ) (l : Line) (h : Home) (bs ms es : List ℕ) (want : 
         pub cell-found : {r : code.Cell} → SiteCell s bs ms es want r → CellIs table l h bs ms es want r
         cell-found {r} a =
             let b : SiteCell (siteAt l none-filled (here .id) (h .start) (h .size)) bs ms es want r = rw (here .is) at a in
-            record { says = λ xs. rw (cell-fits-is true (rw (here .ranks) (here .fitting)), not-false c k, here .ranks) (b .says xs) }
+            record { says = λ xs radix. rw (cell-fits-is true (rw (here .ranks) (here .fitting)), not-false c k, here .ranks) (b .says xs radix) }
 
 pub ruleset cell-of = (needs, cell-misfit, cell-unkept, cell-nowhere, cell-ready, cell-lent, cell-named, cell-found)

@@ -42,20 +42,20 @@ told place Nothing = some (fine none)
 told place Beyond = some (refused 10 place)
 told place Misfit = none
 
--- the work line of a site's pair, with its fragments worked in; the fragments' indexes do not matter
-unfoldable pub siteWork : Line → (bs ms es xs : List ℕ) → Work
-siteWork l bs ms es xs = stepAll (formOf 0 l) (fragmentsIn ms es xs (l .fragments)) (fresh (l .width) (contentOf l bs .bytes)) .work
+-- the work line of a pair, with its fragments worked in; neither the fragments' indexes nor the radix matter
+unfoldable pub siteWork : Line → (bs ms es xs : List ℕ) → (radix : ℕ) → Work
+siteWork l bs ms es xs radix = stepAll (formOf radix l) (fragmentsIn ms es xs (l .fragments)) (fresh (l .width) (contentOf l bs .bytes)) .work
 
 -- 10, or what the pair leaves at a position
-unfoldable pub leftBy : Line → (size : ℕ) (bs ms es xs : List ℕ) (want : ℕ) → Outcome (Option Left)
-leftBy l size bs ms es xs want =
+unfoldable pub leftBy : Line → (size : ℕ) (bs ms es xs : List ℕ) (radix want : ℕ) → Outcome (Option Left)
+leftBy l size bs ms es xs radix want =
     andThen (fold (inLine (l .width) (l .bytes) (l .place)) 0 (fragmentsIn ms es xs (l .fragments))) (λ k.
-    fine (leftAt size (siteWork l bs ms es xs) (l .width + l .bytes) 0 (l .address) want))
+    fine (leftAt size (siteWork l bs ms es xs radix) (l .width + l .bytes) 0 (l .address) want))
 
 -- a pair of an area that is not kept leaves nothing
-abbrev pub leftIn : Line → (size : ℕ) (bs ms es xs : List ℕ) (want : ℕ) → Option ℕ → Outcome (Option Left)
-leftIn l size bs ms es xs want none = fine none
-leftIn l size bs ms es xs want (some id) = leftBy l size bs ms es xs want
+abbrev pub leftIn : Line → (size : ℕ) (bs ms es xs : List ℕ) (radix want : ℕ) → Option ℕ → Outcome (Option Left)
+leftIn l size bs ms es xs radix want none = fine none
+leftIn l size bs ms es xs radix want (some id) = leftBy l size bs ms es xs radix want
 
 -- whether a pair's numbers fit: the home is its area's, the counts are within the bounds, and the table has the classes of its modes
 unfoldable pub cellFits : (table : List ℕ) → Line → Home → (bs ms : List ℕ) → Bool
@@ -67,8 +67,8 @@ pub record SoughtIn (s : Site) (want : ℕ) (wv wm wk : List ℕ) (r : code.Cell
 
 -- a pair at its site
 pub record SiteCell (s : Site) (bs ms es : List ℕ) (want : ℕ) (r : code.Cell) : Type 0 where
-  pub says : (xs : List ℕ) → told (s .line .place) r ≡ some (leftBy (s .line) (s .size) bs ms es xs want)
+  pub says : (xs : List ℕ) (radix : ℕ) → told (s .line .place) r ≡ some (leftBy (s .line) (s .size) bs ms es xs radix want)
 
 -- a pair at any home
 pub record CellIs (table : List ℕ) (l : Line) (h : Home) (bs ms es : List ℕ) (want : ℕ) (r : code.Cell) : Type 0 where
-  pub says : (xs : List ℕ) → told (l .place) r ≡ pick (cellFits table l h bs ms) (some (leftIn l (h .size) bs ms es xs want (lastIndex (h .id)))) none
+  pub says : (xs : List ℕ) (radix : ℕ) → told (l .place) r ≡ pick (cellFits table l h bs ms) (some (leftIn l (h .size) bs ms es xs radix want (lastIndex (h .id)))) none

@@ -1,0 +1,3 @@
+pub mod Decoded
+pub mod Laws
+pub mod Fragments
