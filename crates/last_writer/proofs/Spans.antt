@@ -99,7 +99,7 @@ rank-low k (a ∷ areas) zero m e = go (kept a) e
     go false h = no-rank m h
 rank-low k (a ∷ areas) (suc i) m e = omega (arith, rank-low (k + pick (kept a) 1 0) areas i m e)
 
-spanOf : List Area → ℕ → ℕ → Span
+unfoldable pub spanOf : List Area → ℕ → ℕ → Span
 spanOf areas at i = record { start = at + offset areas i; size = extent areas i }
 
 span-cons : (a : Area) (areas : List Area) (at b i : ℕ) → b ≡ at + keptSize a → spanOf areas b i ≡ spanOf (a ∷ areas) at (suc i)
@@ -116,7 +116,7 @@ span-here a areas at e =
 span-some : (o : Option Span) (s u : Span) → o ≡ some s → s ≡ u → o ≡ some u
 span-some o s u e f = e ∙ ap (λ (x : Span). some x) f
 
-an-areas-span : (areas : List Area) (at k id i : ℕ) → rank k areas i ≡ some (k + id) → spanFrom at areas id ≡ some (spanOf areas at i)
+pub an-areas-span : (areas : List Area) (at k id i : ℕ) → rank k areas i ≡ some (k + id) → spanFrom at areas id ≡ some (spanOf areas at i)
 unfolding rank spanFrom
 an-areas-span [] at k id i e = no-rank (k + id) e
 an-areas-span (a ∷ areas) at k zero zero e = go (kept a) refl e

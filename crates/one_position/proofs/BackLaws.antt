@@ -33,7 +33,7 @@ use Rattle.one_position.proofs.PairLaws.{the-place}
 -- no pair from the k-th on writes the position
 pub record Backing (table pairs content fragments : List ℕ) (n : ℕ) (big : Bool) (width : ℕ) (h : Home) (want k : ℕ) : Type 0 where
   pub inside : k ≤ n
-  pub rest : (fm : Form) (t : Tables) (a : ℕ) (qs : List (Taken Pair)) → Asked fm t a table big width h → RowsAre fm pairs content fragments n qs → want < extent (t .areas) a
+  pub rest : (fm : Form) (t : Tables) (a : ℕ) (qs : List (Taken Pair)) → Asked fm t a table big width h → RowsAre fm t pairs content fragments n qs → want < extent (t .areas) a
       → lastWriter fm t qs (offset (t .areas) a + want) ≡ lastWriter fm t (take k qs) (offset (t .areas) a + want)
 
 module _ (table pairs content fragments : List ℕ) (n : ℕ) (big : Bool) (width : ℕ) (h : Home) (want : ℕ) where
@@ -84,13 +84,13 @@ module _ {table pairs content fragments : List ℕ} {n : ℕ} {big : Bool} {widt
 
   module _ (z : 0 < k) {c : code.Cell} (x : Tells table pairs content fragments (7 * (k - 1)) big width h want c) {b : Bool} (eb : b ≡ isByte c) where
     -- the pair before the k-th, asked before those in front of it
-    step : (fm : Form) (t : Tables) (a : ℕ) (qs : List (Taken Pair)) → Asked fm t a table big width h → RowsAre fm pairs content fragments n qs → want < extent (t .areas) a
+    step : (fm : Form) (t : Tables) (a : ℕ) (qs : List (Taken Pair)) → Asked fm t a table big width h → RowsAre fm t pairs content fragments n qs → want < extent (t .areas) a
         → lastWriter fm t qs (offset (t .areas) a + want) ≡ firstOf (foundBy fm t (getD qs (k - 1) noPair) (offset (t .areas) a + want)) (lastWriter fm t (take (k - 1) qs) (offset (t .areas) a + want))
     step fm t a qs q r l =
         let e : k ≡ suc (k - 1) = omega arith in
         w .rest fm t a qs q r l ∙ (ap (λ (m : ℕ). lastWriter fm t (take m qs) (offset (t .areas) a + want)) e ∙ seek-pair fm t qs (k - 1) (offset (t .areas) a + want) noPair (omega (arith, w .inside, r .many)))
 
-    asked : (fm : Form) (t : Tables) (a : ℕ) (qs : List (Taken Pair)) → Asked fm t a table big width h → (r : RowIs fm pairs content fragments qs (k - 1)) → want < extent (t .areas) a
+    asked : (fm : Form) (t : Tables) (a : ℕ) (qs : List (Taken Pair)) → Asked fm t a table big width h → (r : RowIs fm t pairs content fragments qs (k - 1)) → want < extent (t .areas) a
         → (isByte c ≡ true → told (foundOf c (getD pairs (7 * (k - 1)) 0)) ≡ fine (foundBy fm t (getD qs (k - 1) noPair) (offset (t .areas) a + want)))
         × (isByte c ≡ false → foundBy fm t (getD qs (k - 1) noPair) (offset (t .areas) a + want) ≡ none)
     asked fm t a qs q r l =

@@ -1,3 +1,5 @@
 pub mod Cells
 pub mod PairLaws
 pub mod BackLaws
+pub mod HomeLaws
+pub mod AnswerLaws

@@ -179,15 +179,17 @@ module _ (table pairs content fragments : List ℕ) (p : ℕ) (big : Bool) (widt
           let line-is : line ≡ lineBy fm place c r = el ∙ line-by fm place c r big width (q .order) (q .address) s few in
           let area-is : r .area ≡ i = sym (the-area s) ∙ (sym line-area ∙ (same ∙ ap (λ (y : Home). y .area) (q .home))) in
           let b : LeftBy table (lineBy fm place c r) h bs fragments row want x = subst (λ (y : Line). LeftBy table y h bs fragments row want x) line-is a in
+          let ranked : rank 0 (t .areas) (r .area) ≡ some (q .id) = ap (λ (y : ℕ). rank 0 (t .areas) y) area-is ∙ q .ranked in
+          let in-line = o .in-line (q .id) ranked in
           let f : Fair table (lineBy fm place c r) h bs = fair fm t i place c r q o area-is bs bytes-are in
           b .says f k (fm .radix) er
           ∙ (ap (λ (y : List Fragment). some (leftFrom (lineBy fm place c r) (h .size) bs y (fm .radix) want)) (ap (λ (y : ℕ). from (fragmentFrom fragments) k y) (sym few) ∙ fs)
           ∙ (ap (λ (y : ℕ). some (leftFrom (lineBy fm place c r) y bs (r .fragments) (fm .radix) want)) (ap (λ (y : Home). y .size) (q .home) ∙ ap (λ (y : ℕ). extent (t .areas) y) (sym area-is))
-          ∙ (ap some (here-is fm t (q .id) place (o .many) c r bs want (ap (λ (y : ℕ). rank 0 (t .areas) y) area-is ∙ q .ranked) (o .in-line) (ap (λ (y : List ℕ). take (length (c .bytes)) y) bytes-are ∙ take-length (c .bytes)))
+          ∙ (ap some (here-is fm t (q .id) place (in-line .many) c r bs want ranked (in-line .is) (ap (λ (y : List ℕ). take (length (c .bytes)) y) bytes-are ∙ take-length (c .bytes)))
           ∙ ap (λ (y : ℕ). some (fine (leftOf (cellAt (writes fm t (record { place = place; end = 0; body = placed c r })) (offset (t .areas) y + want))))) area-is)));
     }
       where
-        fair : (fm : Form) (t : Tables) (i place : ℕ) (c : Content) (r : Relocation) → Asked fm t i table big width h → Sound fm place c r → r .area ≡ i → (bs : List ℕ) → bs ≡ c .bytes
+        fair : (fm : Form) (t : Tables) (i place : ℕ) (c : Content) (r : Relocation) → Asked fm t i table big width h → Sound fm t place c r → r .area ≡ i → (bs : List ℕ) → bs ≡ c .bytes
             → Fair table (lineBy fm place c r) h bs
         fair fm t i place c r q o e bs d = record {
           classes = q .classes;

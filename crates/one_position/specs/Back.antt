@@ -44,20 +44,20 @@ abbrev pub noPair : Taken Pair
 noPair = record { place = 0; end = 0; body = skipped }
 
 -- the k-th row stands for the k-th pair, which is not refused
-pub record RowIs (fm : Form) (pairs content fragments : List ℕ) (qs : List (Taken Pair)) (k : ℕ) : Type 0 where
+pub record RowIs (fm : Form) (t : Tables) (pairs content fragments : List ℕ) (qs : List (Taken Pair)) (k : ℕ) : Type 0 where
   pub place : ℕ
   pub content-is : Content
   pub relocation : Relocation
   pub is : getD qs k noPair ≡ record { place = place; end = 0; body = placed content-is relocation }
   pub stands : Stands pairs content fragments (pairColumns * k) place content-is relocation
-  pub sound : Sound fm place content-is relocation
+  pub sound : Sound fm t place content-is relocation
 
 -- so do all of them
-pub record RowsAre (fm : Form) (pairs content fragments : List ℕ) (n : ℕ) (qs : List (Taken Pair)) : Type 0 where
+pub record RowsAre (fm : Form) (t : Tables) (pairs content fragments : List ℕ) (n : ℕ) (qs : List (Taken Pair)) : Type 0 where
   pub many : length qs ≡ n
-  pub each : (k : ℕ) → k < n → RowIs fm pairs content fragments qs k
+  pub each : (k : ℕ) → k < n → RowIs fm t pairs content fragments qs k
 
 -- the last of the pairs that writes the position
 pub record LastIs (table pairs content fragments : List ℕ) (n : ℕ) (big : Bool) (width : ℕ) (h : Home) (want : ℕ) (r : Explained) : Type 0 where
-  pub last : (fm : Form) (t : Tables) (a : ℕ) (qs : List (Taken Pair)) → Asked fm t a table big width h → RowsAre fm pairs content fragments n qs → want < extent (t .areas) a
+  pub last : (fm : Form) (t : Tables) (a : ℕ) (qs : List (Taken Pair)) → Asked fm t a table big width h → RowsAre fm t pairs content fragments n qs → want < extent (t .areas) a
       → told r ≡ fine (lastWriter fm t qs (offset (t .areas) a + want))

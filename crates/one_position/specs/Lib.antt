@@ -1,2 +1,4 @@
 pub mod Pair
 pub mod Back
+pub mod Homed
+pub mod Answer

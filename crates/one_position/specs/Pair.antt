@@ -40,12 +40,16 @@ pub record Asked (fm : Form) (t : Tables) (a : ℕ) (table : List ℕ) (big : Bo
   pub home : h ≡ homeBy a (offset (t .areas) a) (extent (t .areas) a) (some id)
   pub sizes : total (t .areas) ≤ 65536
 
--- what is known of a pair that is not refused, at its place: 7 and 8 are not given, and neither is 10
-pub record Sound (fm : Form) (place : ℕ) (c : Content) (r : Relocation) : Type 0 where
+-- 10 is not given
+pub record InLine (fm : Form) (place : ℕ) (c : Content) (r : Relocation) : Type 0 where
+  pub many : ℕ
+  pub is : fold (inLine (fm .addressLength) (length (c .bytes)) place) 0 (r .fragments) ≡ fine many
+
+-- what is known of a pair that is not refused: 7 and 8 are not given, and where its area is kept, neither is 10
+pub record Sound (fm : Form) (t : Tables) (place : ℕ) (c : Content) (r : Relocation) : Type 0 where
   pub few-bytes : length (c .bytes) ≤ 256
   pub few-fragments : length (r .fragments) ≤ 64
-  pub many : ℕ
-  pub in-line : fold (inLine (fm .addressLength) (length (c .bytes)) place) 0 (r .fragments) ≡ fine many
+  pub in-line : (id : ℕ) → rank 0 (t .areas) (r .area) ≡ some id → InLine fm place c r
 
 -- 10, or what fragments leave at a position
 unfoldable pub leftFrom : Line → (size : ℕ) (bs : List ℕ) (fs : List Fragment) (radix want : ℕ) → Outcome (Option Left)
@@ -79,6 +83,6 @@ pub record Stands (pairs content fragments : List ℕ) (p place : ℕ) (c : Cont
 
 -- what the pair at a row leaves at a position of the area that is asked about; its place in the images is counted from the first kept area's first byte
 pub record Tells (table : List ℕ) (pairs content fragments : List ℕ) (p : ℕ) (big : Bool) (width : ℕ) (h : Home) (want : ℕ) (r : code.Cell) : Type 0 where
-  pub tells : (fm : Form) (t : Tables) (a place : ℕ) (c : Content) (l : Relocation) → Asked fm t a table big width h → Stands pairs content fragments p place c l → Sound fm place c l
+  pub tells : (fm : Form) (t : Tables) (a place : ℕ) (c : Content) (l : Relocation) → Asked fm t a table big width h → Stands pairs content fragments p place c l → Sound fm t place c l
       → want < extent (t .areas) a
       → told place r ≡ some (fine (leftOf (cellAt (writes fm t (record { place = place; end = 0; body = placed c l })) (offset (t .areas) a + want))))

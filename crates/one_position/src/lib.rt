@@ -1,5 +1,7 @@
 // One position of a kept area read by itself, from the last T and R pair back to the first: who wrote it, and what. No image is kept.
+mod answer;
 mod back;
+mod home;
 mod pair;
 
 // A refusal with its number and place; that no line writes the position; or the value and mask that the last line to write it left there, and the place of its T.
