@@ -51,24 +51,25 @@ home-by : (areas : List ℕ) (n id i : ℕ) (o : Option ℕ) (h : Home) → rank
     → (eqb (h .id) (suc id) ≡ true → HomeIs areas n id h) × (eqb (h .id) (suc id) ≡ false → o ≡ some id → ⊥)
 unfolding spanOf
 home-by areas n id i none h r e = (λ t. let g : h .id ≡ 0 = ap (λ (x : Home). x .id) e in let y : ⊥ = omega (arith, eqb-true (h .id) (suc id) t) in absurd y, λ t f. let z : _≡_ {A = ℕ} 0 1 = cc in let y : ⊥ = omega arith in y)
-home-by areas n id i (some k) h r e =
-    ((λ t.
-        let g : h .id ≡ suc k = rw e (add-one k) in
-        let same : k ≡ id = omega (arith, eqb-true (h .id) (suc id) t) in
-        let area : i ≡ h .area = sym (ap (λ (x : Home). x .area) e) in
-        let ranked : rank 0 (areasIn areas n) i ≡ some id = r ∙ ap (λ (x : ℕ). some x) same in
-        record {
-          missing = λ z. let y : ⊥ = omega arith in absurd y;
-          present = λ f. record {
-            ranked = rw area at ranked;
-            home = e ∙ (ap (λ (x : ℕ). homeBy i (offset (areasIn areas n) i) (extent (areasIn areas n) i) (some x)) same ∙ ap (λ (x : ℕ). homeBy x (offset (areasIn areas n) x) (extent (areasIn areas n) x) (some id)) area);
-            span = span-is i ranked ∙ ap (λ (x : ℕ). some (record { start = offset (areasIn areas n) x; size = extent (areasIn areas n) x })) area;
-          };
-        }),
-     λ t f.
-        let g : h .id ≡ suc k = rw e (add-one k) in
-        let same : k ≡ id = cc in
-        false≢true (sym t ∙ eq-eqb (h .id) (suc id) (omega arith)))
+home-by areas n id i (some k) h r e = (
+  (λ t.
+      let g : h .id ≡ suc k = rw e (add-one k) in
+      let same : k ≡ id = omega (arith, eqb-true (h .id) (suc id) t) in
+      let area : i ≡ h .area = sym (ap (λ (x : Home). x .area) e) in
+      let ranked : rank 0 (areasIn areas n) i ≡ some id = r ∙ ap (λ (x : ℕ). some x) same in
+      record {
+        missing = λ z. let y : ⊥ = omega arith in absurd y;
+        present = λ f. record {
+          ranked = rw area at ranked;
+          home = e ∙ (ap (λ (x : ℕ). homeBy i (offset (areasIn areas n) i) (extent (areasIn areas n) i) (some x)) same ∙ ap (λ (x : ℕ). homeBy x (offset (areasIn areas n) x) (extent (areasIn areas n) x) (some id)) area);
+          span = span-is i ranked ∙ ap (λ (x : ℕ). some (record { start = offset (areasIn areas n) x; size = extent (areasIn areas n) x })) area;
+        };
+      }),
+  λ t f.
+      let g : h .id ≡ suc k = rw e (add-one k) in
+      let same : k ≡ id = cc in
+      false≢true (sym t ∙ eq-eqb (h .id) (suc id) (omega arith)),
+)
   where
     span-is : (j : ℕ) → rank 0 (areasIn areas n) j ≡ some id → spanFrom 0 (areasIn areas n) id ≡ some (record { start = offset (areasIn areas n) j; size = extent (areasIn areas n) j })
     span-is j f =

@@ -3,3 +3,4 @@ pub mod PairLaws
 pub mod BackLaws
 pub mod HomeLaws
 pub mod AnswerLaws
+pub mod Rows

@@ -105,7 +105,7 @@ module _ (p : Taken Pair) (ps : List (Taken Pair)) (b k i : ℕ) {P B F : List �
 
 module _ (place end : ℕ) (c : Content) (r : Relocation) (ps : List (Taken Pair)) (b k i : ℕ) {P B F : List ℕ} (s : Standing (record { place = place; end = end; body = placed c r } ∷ ps) b k i P B F) where
   -- the first of them
-  first-stands : pairFrom P B F i ≡ record { place = place; end = 0; body = placed c r }
+  pub first-stands : pairFrom P B F i ≡ record { place = place; end = 0; body = placed c r }
   unfolding pairRows contentBytes allFragments
   first-stands =
       let rows : P ≡ s .pairs-before ++ (pairNumbers place b k c r ++ (pairRows (b + length (c .bytes)) (k + length (r .fragments)) ps ++ s .pairs-behind)) =
