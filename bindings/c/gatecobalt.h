@@ -19,11 +19,11 @@ extern "C" {
 #define GATECOBALT_TEXT 65536
 
 /* Numbers in a row. An area: its name's place and length in the text, size, flags, 1 if addr is
- * given, addr or 0. A symbol: its name's place and length, 1 for Ref or 0 for Def, value, the index
- * of its area plus 1 or 0 for none. A fixup: the id of its area, position, size, mode, 1 for an
- * outside symbol or 0 for a kept area, that name's place or that area's id, the name's length or 0,
- * value, number. */
-#define GATECOBALT_AREA_WIDTH 6
+ * given, addr or 0, known bits (the ones in its masks; 0 if it is not kept). A symbol: its name's
+ * place and length, 1 for Ref or 0 for Def, value, the index of its area plus 1 or 0 for none. A
+ * fixup: the id of its area, position, size, mode, 1 for an outside symbol or 0 for a kept area,
+ * that name's place or that area's id, the name's length or 0, value, number. */
+#define GATECOBALT_AREA_WIDTH 7
 #define GATECOBALT_SYMBOL_WIDTH 5
 #define GATECOBALT_FIXUP_WIDTH 9
 

@@ -129,6 +129,8 @@ pub struct Kept<'a> {
     pub values: &'a [u8],
     /// A mask a position: the known bits of its value.
     pub masks: &'a [u8],
+    /// How many bits are known: the ones in all masks.
+    pub known_bits: u32,
 }
 
 /// Records of a text and what they give, in the order of the text. Whether they are all records of
@@ -228,12 +230,13 @@ impl<'a> Records<'a> {
     /// The kept areas in order of their ids.
     pub fn kept(&self) -> impl Iterator<Item = Kept<'a>> + 'a {
         let (mut values, mut masks) = (self.values, self.masks);
-        let kept = self.areas().enumerate().filter(|(_, area)| area.is_kept());
-        kept.enumerate().map(move |(id, (index, area))| {
+        let known = self.areas.chunks_exact(raw::widths().area).map(|row| row[6]);
+        let kept = self.areas().zip(known).enumerate().filter(|(_, (area, _))| area.is_kept());
+        kept.enumerate().map(move |(id, (index, (area, known_bits)))| {
             let size = area.size as usize;
             let image = (&values[..size], &masks[..size]);
             (values, masks) = (&values[size..], &masks[size..]);
-            Kept { index, id, area, values: image.0, masks: image.1 }
+            Kept { index, id, area, values: image.0, masks: image.1, known_bits }
         })
     }
 }

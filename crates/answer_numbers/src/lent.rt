@@ -26,7 +26,7 @@ pub fn row_widths() -> Widths
     ensures { λ r. ⌜ r ≡ widths ⌝ }
 {
     Widths {
-        area: 6,
+        area: 7,
         symbol: 5,
         fixup: 9,
     }
@@ -38,7 +38,7 @@ pub fn lent_rooms() -> Rooms
 {
     Rooms {
         text: 65536,
-        areas: 384,
+        areas: 448,
         symbols: 5120,
         values: 65536,
         masks: 65536,

@@ -1,8 +1,12 @@
-// What an area's row says: its name, size, kind and base.
+// What an area's row says: its name, size, kind, base and known bits; and the known bits written into it.
 ghost use mathlib.Core.Path.{_≡_};
 ghost use Rattle.format.specs.Tables as the;
-ghost use Rattle.laws.specs.Rows.{areaAt};
+ghost use Prim.Native.Nat.{_+_, _*_};
+ghost use lib.ListN.{set};
+ghost use Rattle.laws.specs.Rows.{areaAt, knownAt};
 ghost use Rattle.row_parts.specs.Parts.{nameIn};
+ghost use Rattle.area_rows.specs.Known.{narrowed};
+use cells::put_u32;
 use cells::wide;
 use row_parts::area_cell;
 use row_parts::part;
@@ -45,4 +49,32 @@ pub fn base(areas: &[u32], i: usize) -> u32
     let given = area_cell(areas, i, 4);
     let addr = area_cell(areas, i, 5);
     if given == 1 { addr } else { 0 }
+}
+
+// The known bits: the ones in the masks of a kept area, 0 for any other.
+pub fn known_bits(areas: &[u32], i: usize) -> u32
+    ensures { λ r. ⌜ r ≡ knownAt (now (areas .entry)) i ⌝ }
+{
+    area_cell(areas, i, 6)
+}
+
+// A count as a number of a row, at most the largest.
+fn narrow(n: usize) -> u32
+    ensures { λ r. ⌜ r ≡ narrowed n ⌝ }
+{
+    if n <= 4294967295 {
+        n as u32
+    } else {
+        4294967295
+    }
+}
+
+// The known bits of area i written into its row; past the end nothing changes.
+pub fn put_known(areas: &mut [u32], i: usize, known: usize)
+    ensures { λ _. ⌜ now (areas .exit) ≡ set (now (areas .entry)) (7 * i + 6) (narrowed known) ⌝ }
+{
+    if areas.len() / 7 < i {
+        return;
+    }
+    put_u32(areas, 7 * i + 6, narrow(known))
 }

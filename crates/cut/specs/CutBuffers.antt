@@ -9,7 +9,7 @@ use mathlib.Core.List.{List, _∷_, List·Memᴰ}
 use mathlib.Core.Logic.{_↔_}
 use Rattle.format.specs.Lists.{flat, over}
 use Rattle.format.specs.Outcome.{fine}
-use Rattle.format.specs.Rows.{areaNumbers, fixupNumbers, symbolNumbers}
+use Rattle.format.specs.Rows.{areaTable, fixupNumbers, symbolNumbers}
 use Rattle.format.specs.Records.{Parsed, Verdict, ends, finished, lastOf, parsed, stopped}
 use Rattle.format.specs.Reading.{Answer, Built, accepted, build, countsOf, fixupsOf, refusal}
 use Rattle.format.specs.Held.{Held}
@@ -35,8 +35,8 @@ pub record CutHeld (whole : Parsed) (n : ℕ) (old : Held) (answer : Answer) (ne
   pub finished-at-an-edge : (told ≡ finished) ↔ List·Memᴰ n (edges n whole)
   -- and else stopped, at the last such place
   pub else-stopped : (List·Memᴰ n (edges n whole) → ⊥) → told ≡ stopped (lastEdge n whole)
-  -- each buffer has the rows of those records first, and behind them what it held
-  pub areas : new .areas ≡ over (flat areaNumbers (built .tables .areas)) (old .areas)
+  -- each buffer has the rows of those records first, the area rows with the known bits that those records alone give, and behind them what it held
+  pub areas : new .areas ≡ over (areaTable (built .tables .areas) (built .state .masks)) (old .areas)
   pub symbols : new .symbols ≡ over (flat symbolNumbers (built .tables .symbols)) (old .symbols)
   pub values : new .values ≡ over (built .state .values) (old .values)
   pub masks : new .masks ≡ over (built .state .masks) (old .masks)

@@ -72,7 +72,7 @@ module _ (s : Site) (ms ns : List ℕ) (t : Reference) (i position k : ℕ) (row
     row-room = ltb-true k 1024 (tests .0 .1)
 
     pub row-added : {z m n : ℕ} → z ≡ onSite m → m ≡ getD ms i 0 → n ≡ getD ns i 0 → {rows′ : List ℕ}
-        → OneRow k (fixup (s .home) position z m t n) rows rows′ → Added s ms ns (To t) i position k rows (Rows x) rows′
+        → OneRow k (fixup (s .id) position z m t n) rows rows′ → Added s ms ns (To t) i position k rows (Rows x) rows′
     unfolding fixupOf
     row-added {z} {m} {n} ez em en {rows′} p =
         let has : i < s .made = ltb-true i (s .made) (tests .0 .0) in

@@ -24,7 +24,7 @@ use Rattle.checks.specs.Check.{usedBy}
 
 -- what the lent tables and numbers stand for
 unfoldable pub siteOf : (areas symbols ns : List ℕ) → Site → (place : ℕ) → defs.Site
-siteOf areas symbols ns s place = record { tables = tablesFor areas symbols (s .filled); place = place; home = s .home; numbers = take (s .made) ns }
+siteOf areas symbols ns s place = record { tables = tablesFor areas symbols (s .filled); place = place; home = s .id; numbers = take (s .made) ns }
 
 -- the walk of the definition, for the fixups alone: m entries from an entry on, while the position is inside the area
 unfoldable pub fixupsWalk : defs.Site → (size : ℕ) → List Fragment → (keeps : List ℕ) → (m entry position : ℕ) → List Fixup → Outcome (List Fixup)
@@ -67,7 +67,7 @@ pub record OneRow (k : ℕ) (x : Fixup) (rows rows′ : List ℕ) : Type 0 where
 
 -- a row for what the i-th fragment refers to: 11, 12, 13, no row, or one
 pub record Added (s : Site) (ms ns : List ℕ) (to : Refers) (i position k : ℕ) (rows : List ℕ) (r : Fixed) (rows′ : List ℕ) : Type 0 where
-  pub says : (w : defs.Site) (f : Fragment) → w .numbers ≡ take (s .made) ns → length (w .numbers) ≡ s .made → w .home ≡ s .home → f .mode ≡ getD ms i 0
+  pub says : (w : defs.Site) (f : Fragment) → w .numbers ≡ take (s .made) ns → length (w .numbers) ≡ s .made → w .home ≡ s .id → f .mode ≡ getD ms i 0
       → told (w .place) r rows′ ≡ andThen (ref.told (w .place) to) (λ x. fixupTo w i position f (fixupsIn rows k) x)
   pub within : Within k r rows rows′
 

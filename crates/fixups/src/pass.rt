@@ -40,7 +40,7 @@ fn with_numbers(site: Site, n: usize) -> Site
     Site {
         line: line,
         filled: filled,
-        home: site.home,
+        id: site.id,
         start: site.start,
         size: site.size,
         made: n,

@@ -48,16 +48,7 @@ fn write_row(
         return r;
     };
     let mode = at(ms, i);
-    put_row(
-        rows,
-        k,
-        site.home,
-        p,
-        size_on_site(mode),
-        mode,
-        t,
-        at(ns, i),
-    );
+    put_row(rows, k, site.id, p, size_on_site(mode), mode, t, at(ns, i));
     Fixed::Rows(x)
 }
 

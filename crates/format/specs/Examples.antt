@@ -51,7 +51,7 @@ whole r = answerOf (r .answer) ∷ r .areas ∷ r .symbols ∷ r .values ∷ r .
 
 -- buffers of just their bounds
 lent : Lent
-lent = record { areas = 64 * 6; symbols = 1024 * 5; values = 65536; masks = 65536; fixups = 1024 * 9 }
+lent = record { areas = 64 * 7; symbols = 1024 * 5; values = 65536; masks = 65536; fixups = 1024 * 9 }
 
 -- as many bytes as an address of the text's header has, read behind the header's line end by its radix and joined in its order
 underHead : Option Head → List ℕ → Got ℕ
@@ -85,14 +85,19 @@ e12 : List ℕ
 unfolding bytesOf
 e12 = bytesOf "XH3\nA C size 2 flags 20\nA D size 2 flags 20\nT 00 00 01 AA BB\nR 00 00 00 00\n"
 
+-- three areas, of which X is not kept: in C the second line overwrites a byte of the first, with a mask of 1F for one of FF
+known : List ℕ
+unfolding bytesOf
+known = bytesOf "XH3\nA C size 3 flags 20\nA X size 5 flags 0\nA D size 3 flags 20\nT 00 00 00 AA BB\nR 00 00 00 00\nT 00 00 01 CC DD EE\nR 00 00 00 00 08 03 00 00\nT 00 00 00 11\nR 00 00 00 02\n"
+
 -- classes are told by their numbers: Addr19 0, Addr11 1, Addr24 2, Addr16 3, Byte 4, Other 5
 pub table : List Example
-unfolding evaluate bytesOf got outcome answerOf whole lent underHead underHeader e1 e2 e10 e11 e12
+unfolding evaluate bytesOf got outcome answerOf whole lent underHead underHeader e1 e2 e10 e11 e12 known
 table =
     -- E1: the whole reading
     example (whole (reading true lent e1)) (
     (1 ∷ 1 ∷ 2 ∷ 1 ∷ 1 ∷ 6 ∷ 2 ∷ [])
-    ∷ (55 ∷ 4 ∷ 6 ∷ 0x20 ∷ 1 ∷ 0 ∷ [])
+    ∷ (55 ∷ 4 ∷ 6 ∷ 0x20 ∷ 1 ∷ 0 ∷ 16 ∷ [])
     ∷ (40 ∷ 4 ∷ 1 ∷ 0 ∷ 0 ∷ 85 ∷ 3 ∷ 0 ∷ 0 ∷ 1 ∷ [])
     ∷ (0x12 ∷ 0 ∷ 0 ∷ 0x02 ∷ 0 ∷ 0 ∷ [])
     ∷ (0xFF ∷ 0 ∷ 0 ∷ 0xFF ∷ 0 ∷ 0 ∷ [])
@@ -128,9 +133,14 @@ table =
     -- E11: plain, with its area row; ended
     ∷ example
     (answerOf (reading false lent e11 .answer) ∷ reading false lent e11 .areas ∷ answerOf (reading true lent e11 .answer) ∷ [])
-    ((1 ∷ 1 ∷ 0 ∷ 0 ∷ 0 ∷ 0 ∷ 0 ∷ []) ∷ (6 ∷ 1 ∷ 9 ∷ 2 ∷ 0 ∷ 0 ∷ []) ∷ (1 ∷ 0 ∷ 0 ∷ 0 ∷ 0 ∷ 0 ∷ 0 ∷ 4 ∷ []) ∷ [])
+    ((1 ∷ 1 ∷ 0 ∷ 0 ∷ 0 ∷ 0 ∷ 0 ∷ []) ∷ (6 ∷ 1 ∷ 9 ∷ 2 ∷ 0 ∷ 0 ∷ 0 ∷ []) ∷ (1 ∷ 0 ∷ 0 ∷ 0 ∷ 0 ∷ 0 ∷ 0 ∷ 4 ∷ []) ∷ [])
     -- E12: values and masks
     ∷ example (reading true lent e12 .values ∷ reading true lent e12 .masks ∷ []) ((0 ∷ 0xAA ∷ 0 ∷ 0 ∷ []) ∷ (0 ∷ 0xFF ∷ 0 ∷ 0 ∷ []) ∷ [])
+    -- known bits: 8 for FF and 5 for 1F, none for an area that is not kept; and the masks
+    ∷ example (reading true lent known .areas ∷ reading true lent known .masks ∷ []) (
+    (6 ∷ 1 ∷ 3 ∷ 0x20 ∷ 0 ∷ 0 ∷ 13 ∷ 26 ∷ 1 ∷ 5 ∷ 0 ∷ 0 ∷ 0 ∷ 0 ∷ 45 ∷ 1 ∷ 3 ∷ 0x20 ∷ 0 ∷ 0 ∷ 8 ∷ [])
+    ∷ (0xFF ∷ 0x1F ∷ 0 ∷ 0xFF ∷ 0 ∷ 0 ∷ [])
+    ∷ [])
     ∷ []
 
 -- every example holds

@@ -16,6 +16,7 @@ pub mod Fixups
 pub mod Placing
 pub mod Target
 pub mod Corrected
+pub mod Known
 pub mod Rows
 pub mod Reading
 pub mod Held

@@ -13,7 +13,7 @@ use Rattle.format.specs.Records.{Parsed, Records, Verdict, parsed, verdi
 use Rattle.format.specs.Tables.{Tables, counted, keptCount, room, tables}
 use Rattle.format.specs.Fixups.{Fixup, byArea}
 use Rattle.format.specs.Placing.{State, placing}
-use Rattle.format.specs.Rows.{areaColumns, areaNumbers, fixupColumns, fixupNumbers, symbolColumns, symbolNumbers}
+use Rattle.format.specs.Rows.{areaColumns, areaTable, fixupColumns, fixupNumbers, symbolColumns, symbolNumbers}
 
 -- what the records alone give
 pub record Built : Type 0 where
@@ -115,7 +115,7 @@ abbrev pub readingOf : List ℕ → Outcome Read → Reading
 readingOf text (refused n p) = record { answer = refusal n p; areas = []; symbols = []; values = []; masks = []; fixups = [] }
 readingOf text (fine r) = record {
   answer = accepted (countsOf (r .built)) (verdict text (r .parsed));
-  areas = flat areaNumbers (r .built .tables .areas);
+  areas = areaTable (r .built .tables .areas) (r .built .state .masks);
   symbols = flat symbolNumbers (r .built .tables .symbols);
   values = r .built .state .values;
   masks = r .built .state .masks;

@@ -2,15 +2,16 @@
 -- Assumes nothing.
 use Prim.Native.Nat.{suc, ℕ}
 use mathlib.Core.Bool.{Bool, false, true}
-use mathlib.Core.List.{List, [], _∷_}
+use mathlib.Core.List.{List, [], _∷_, _++_}
 use mathlib.Core.Option.{Option, none, some}
-use lib.ListN.{length}
-use Rattle.format.specs.Tables.{Area, Symbol, base}
+use lib.ListN.{drop, length, take}
+use Rattle.format.specs.Tables.{Area, Symbol, base, keptSize}
+use Rattle.format.specs.Known.{onesOf}
 use Rattle.format.specs.Fixups.{Fixup}
 
 -- numbers in a row of each table
 abbrev pub areaColumns : ℕ
-areaColumns = 6
+areaColumns = 7
 
 abbrev pub symbolColumns : ℕ
 symbolColumns = 5
@@ -33,9 +34,14 @@ abbrev pub given : Option ℕ → ℕ
 given none = 0
 given (some n) = 1
 
--- name's place and length, size, flags, whether addr is given, addr or 0
-unfoldable pub areaNumbers : Area → List ℕ
-areaNumbers a = a .name .at ∷ a .name .length ∷ a .size ∷ a .flags ∷ given (a .addr) ∷ base a ∷ []
+-- name's place and length, size, flags, whether addr is given, addr or 0, known bits
+unfoldable pub areaNumbers : (known : ℕ) → Area → List ℕ
+areaNumbers known a = a .name .at ∷ a .name .length ∷ a .size ∷ a .flags ∷ given (a .addr) ∷ base a ∷ known ∷ []
+
+-- the rows of areas whose masks stand one behind the other: each with the ones over its own
+unfoldable pub areaTable : List Area → (masks : List ℕ) → List ℕ
+areaTable [] masks = []
+areaTable (a ∷ rest) masks = areaNumbers (onesOf (take (keptSize a) masks)) a ++ areaTable rest (drop (keptSize a) masks)
 
 -- name's place and length, Ref, value, area plus 1 or 0 for none
 unfoldable pub symbolNumbers : Symbol → List ℕ

@@ -21,8 +21,8 @@ fn size_at(areas: &[u32], j: usize) -> u32
     requires { ⌜ j < 64 ⌝ }
     ensures { λ r. ⌜ r ≡ keptSize (areaAt (now (areas .entry)) j) ⌝ }
 {
-    let size = at(areas, 6 * j + 2);
-    let flags = at(areas, 6 * j + 3);
+    let size = at(areas, 7 * j + 2);
+    let flags = at(areas, 7 * j + 3);
     if flags / 32 % 2 == 1 { size } else { 0 }
 }
 

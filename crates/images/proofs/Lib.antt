@@ -1,3 +1,4 @@
+pub mod CountLaws
 pub mod ImageLaws
 pub mod PlainLaws
 pub mod Use

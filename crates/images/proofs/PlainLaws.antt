@@ -18,7 +18,9 @@ use Rattle.format.specs.WorkLine.{padded}
 use Rattle.sites.specs.declared.Site.{Site}
 use Rattle.sites.specs.Site.{Ready, isReady}
 use Rattle.sites.proofs.Fitting.{ready-by}
+use Rattle.images.specs.Count.{Filled}
 use Rattle.images.specs.Image.{imageWalk, imageOf, plainValues, plainMasks, Plain, Written}
+use Rattle.images.proofs.CountLaws.{known-then, known-still}
 use Rattle.images.proofs.ImageLaws.{out-of}
 
 -- ------------------------------------------------------------------ a work line without fragments
@@ -130,12 +132,13 @@ same-part a b v = go (leb a b) refl
     go true e = let l : a ≤ b = leb-true a b e in sym (take-all b (replicate a v) (omega (arith, length-replicate a v)))
     go false e = let l : b < a = leb-false a b e in sym (some-of a b v (omega arith))
 
-module _ (s : Site) (bs vs ms : List ℕ) where
-  pub plain-out : s .size ≤ s .line .address → Plain s bs vs ms vs ms
+module _ (s : Site) (bs : List ℕ) (count : ℕ) (vs ms : List ℕ) where
+  pub plain-out : s .size ≤ s .line .address → Plain s bs count vs ms count vs ms
   unfolding imageOf plainValues plainMasks
   plain-out h = record {
     values = sym (out-of (s .start) (s .size) _ _ (s .line .width + s .line .bytes) 0 (s .line .address) vs h);
     masks = sym (out-of (s .start) (s .size) _ _ (s .line .width + s .line .bytes) 0 (s .line .address) ms h);
+    moves = refl;
   }
 
   module _ (h : s .line .address < s .size) {q : ℕ} (eq : q ≡ s .line .address) where
@@ -143,19 +146,33 @@ module _ (s : Site) (bs vs ms : List ℕ) where
     plain-fits r = record { fits = omega (arith, r .inside) }
 
     pub plain-in : s .line .bytes ≤ length bs → {room k to : ℕ} → room ≡ s .size - s .line .address → k ≡ pick (leb (s .line .bytes) room) (s .line .bytes) room → to ≡ s .start + q
-        → {vs′ ms′ : List ℕ} → vs′ ≡ sets vs to (take k bs) → ms′ ≡ sets ms to (replicate k 255) → Plain s bs vs ms vs′ ms′
+        → {vs′ ms′ : List ℕ} → vs′ ≡ sets vs to (take k bs) → {r : ℕ} → Filled to k count ms r ms′ → Plain s bs count vs ms r vs′ ms′
     unfolding plainValues plainMasks
-    plain-in l {room} er ek et ev em = record {
+    plain-in l {room} er ek et ev d = record {
       values = ev ∙ (rw (et, eq, ek, part (s .line .bytes) room bs l, er) (plain-image s (take (s .line .bytes) bs) vs (length-take-le (s .line .bytes) bs l) h));
-      masks = em ∙ (rw (et, eq, ek, same-part (s .line .bytes) room 255, er) (plain-image s (replicate (s .line .bytes) 255) ms (length-replicate (s .line .bytes) 255) h));
+      masks = d .stored ∙ (rw (et, eq, ek, same-part (s .line .bytes) room 255, er) (plain-image s (replicate (s .line .bytes) 255) ms (length-replicate (s .line .bytes) 255) h));
+      moves = d .counted .moves;
     }
 
-pub ruleset plain = (needs, le-leb, lt-leb, plain-out, plain-fits, plain-in)
+-- what `fill_masks` asks
+pub plain-asks : {s : Site} → Ready s → s .line .address < s .size → {q to : ℕ} → q ≡ s .line .address → to ≡ s .start + q → {k count : ℕ} → k ≤ s .line .bytes → 2080 ≤ count → count ≤ 4294969375
+    → (to ≤ 65536) × (k ≤ 256) × (2080 ≤ count) × (count ≤ 4294969375)
+plain-asks r h eq et l a b = (omega (arith, r .inside), omega (arith, r .line .content), a, b)
+
+-- `fewer`
+pub fewer-all : (a b : ℕ) → a ≤ b → (a ≡ pick (leb a b) a b) × (a ≤ a)
+fewer-all a b h = (rw (le-leb a b h), omega arith)
+
+pub fewer-some : (a b : ℕ) → b < a → (b ≡ pick (leb a b) a b) × (b ≤ a)
+fewer-some a b h = (rw (lt-leb a b h), omega arith)
+
+pub ruleset plain = (needs, le-leb, lt-leb, plain-out, plain-fits, plain-in, plain-asks, fewer-all, fewer-some)
 
 -- `write_plain`: t is the test of the bounds
 module _ (s : Site) (bs vs ms : List ℕ) {t : Bool} (et : t ≡ isReady s) where
-  pub plain-unready : not t ≡ true → Written (isReady s && leb (s .line .bytes) (length bs)) (plainValues s bs vs) (plainMasks s ms) vs ms false vs ms
-  plain-unready h = let e : isReady s ≡ false = sym et ∙ not-true t h in record { answer = rw e; values = rw e; masks = rw e }
+  pub plain-unready : not t ≡ true → {r : ℕ} → r ≡ s .filled .known
+      → Written (isReady s && leb (s .line .bytes) (length bs)) (plainValues s bs vs) (plainMasks s ms) (s .filled .known) vs ms r vs ms
+  plain-unready h k = let e : isReady s ≡ false = sym et ∙ not-true t h in record { answer = known-still (s .filled .known) ms k; values = rw e; masks = rw e }
 
   module _ (k : not t ≡ false) where
     is-true : isReady s ≡ true
@@ -164,10 +181,14 @@ module _ (s : Site) (bs vs ms : List ℕ) {t : Bool} (et : t ≡ isReady s) wher
     pub plain-ready : Ready s
     plain-ready = ready-by s is-true
 
-    pub plain-unlent : length bs < s .line .bytes → Written (isReady s && leb (s .line .bytes) (length bs)) (plainValues s bs vs) (plainMasks s ms) vs ms false vs ms
-    plain-unlent h = let e : leb (s .line .bytes) (length bs) ≡ false = lt-leb (s .line .bytes) (length bs) h in record { answer = rw (is-true, e); values = rw (is-true, e); masks = rw (is-true, e) }
+    pub plain-unlent : length bs < s .line .bytes → {r : ℕ} → r ≡ s .filled .known
+        → Written (isReady s && leb (s .line .bytes) (length bs)) (plainValues s bs vs) (plainMasks s ms) (s .filled .known) vs ms r vs ms
+    plain-unlent h d = let e : leb (s .line .bytes) (length bs) ≡ false = lt-leb (s .line .bytes) (length bs) h in record { answer = known-still (s .filled .known) ms d; values = rw (is-true, e); masks = rw (is-true, e) }
 
-    pub plain-written : s .line .bytes ≤ length bs → {vs′ ms′ : List ℕ} → Plain s bs vs ms vs′ ms′ → Written (isReady s && leb (s .line .bytes) (length bs)) (plainValues s bs vs) (plainMasks s ms) vs ms true vs′ ms′
-    plain-written h p = let e : leb (s .line .bytes) (length bs) ≡ true = le-leb (s .line .bytes) (length bs) h in record { answer = rw (is-true, e); values = rw (is-true, e) (p .values); masks = rw (is-true, e) (p .masks) }
+    pub plain-written : s .line .bytes ≤ length bs → {count : ℕ} → count ≡ s .filled .known + 2080 → {j : ℕ} {vs′ ms′ : List ℕ} → Plain s bs count vs ms j vs′ ms′ → {r : ℕ} → r ≡ j - 2080
+        → Written (isReady s && leb (s .line .bytes) (length bs)) (plainValues s bs vs) (plainMasks s ms) (s .filled .known) vs ms r vs′ ms′
+    plain-written h c {j} {vs′} {ms′} p f =
+        let e : leb (s .line .bytes) (length bs) ≡ true = le-leb (s .line .bytes) (length bs) h in
+        record { answer = known-then (s .filled .known) ms ms′ j c (p .moves) f; values = rw (is-true, e) (p .values); masks = rw (is-true, e) (p .masks) }
 
 pub ruleset plainly = (needs, plain-unready, plain-ready, plain-unlent, plain-written)

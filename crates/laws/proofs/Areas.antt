@@ -24,7 +24,7 @@ size-zero zero = refl
 size-zero (suc x) = rw (le-leb 1 (suc x) (omega arith))
 
 -- by the size and the flags that its row has
-module _ (areas : List ℕ) (j : ℕ) {z f : ℕ} (ez : z ≡ getD areas (6 * j + 2) 0) (ef : f ≡ getD areas (6 * j + 3) 0) where
+module _ (areas : List ℕ) (j : ℕ) {z f : ℕ} (ez : z ≡ getD areas (7 * j + 2) 0) (ef : f ≡ getD areas (7 * j + 3) 0) where
   pub size-none : (f / 32 % 2 ≡ 1 → ⊥) → 0 ≡ keptSize (areaAt areas j)
   unfolding keptSize kept code areaAt bit
   size-none h = rw (← ef, ne-eqb (f / 32 % 2) 1 h)

@@ -13,3 +13,5 @@ pub mod Fill
 pub mod Parts
 pub mod Areas
 pub mod Decoded
+pub mod Known
+pub mod KnownPlacing

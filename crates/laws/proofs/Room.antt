@@ -22,8 +22,9 @@ use Rattle.format.specs.Fixups.{Fixup, Reference, Site, reference, fixupOf, fix
 use Rattle.format.specs.Placing.{State, Walk, passedOver, write, walk, placeAt, placeLine, placeIn, placeBody, placePair, placing}
 use Rattle.format.specs.WorkLine.{inLine}
 use Rattle.format.specs.Reading.{build, Lent, lentRoom, allowed, Read, readOf, read, Reading, fixupsOf, readingOf, reading}
-use Rattle.format.specs.Rows.{areaNumbers, symbolNumbers, fixupNumbers}
+use Rattle.format.specs.Rows.{areaColumns, fixupColumns, symbolColumns, symbolNumbers, fixupNumbers}
 use Rattle.laws.proofs.Ones.{one-at-most}
+use Rattle.laws.proofs.Known.{table-length}
 use Rattle.laws.proofs.Outcomes.{chain, passed}
 
 -- what every step keeps holds in the end
@@ -210,7 +211,7 @@ both-true true false h = absurd (false≢true h)
 both-true false t h = absurd (false≢true h)
 
 -- what room the lent buffers have
-room-of : (b : Lent) → lentRoom b ≡ true → (384 ≤ b .areas) × (5120 ≤ b .symbols) × (65536 ≤ b .values) × (65536 ≤ b .masks) × (9216 ≤ b .fixups)
+room-of : (b : Lent) → lentRoom b ≡ true → (64 * areaColumns ≤ b .areas) × (1024 * symbolColumns ≤ b .symbols) × (65536 ≤ b .values) × (65536 ≤ b .masks) × (1024 * fixupColumns ≤ b .fixups)
 unfolding lentRoom
 room-of b h =
     let k = both-true _ _ h in
@@ -221,11 +222,11 @@ room-of b h =
 
 room-with : (b : Lent) (text : List ℕ) (p : Parsed) (t : Tables) (lines size : ℕ) (s : State) → lentRoom b ≡ true → Small t → Sized (total (t .areas)) s
     → total (t .areas) ≤ 65536 → HasRoom b (readingOf text (fine (record { parsed = p; built = record { tables = t; lines = lines; size = size; state = s } })))
-unfolding fixupsOf areaNumbers symbolNumbers fixupNumbers
+unfolding fixupsOf symbolNumbers fixupNumbers
 room-with b text p t lines size s h small sized l =
     let k = room-of b h in
     record {
-      areas = omega (arith, flat-length areaNumbers 6 (λ a. refl) (t .areas), small .areas, k .0);
+      areas = omega (arith, table-length (t .areas) (s .masks), small .areas, k .0);
       symbols = omega (arith, flat-length symbolNumbers 5 (λ a. refl) (t .symbols), small .symbols, k .1);
       values = omega (arith, sized .values, k .2);
       masks = omega (arith, sized .masks, k .3);

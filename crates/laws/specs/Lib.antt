@@ -3,3 +3,4 @@ pub mod Rows
 pub mod Tab
 pub mod Part
 pub mod PairRows
+pub mod Spared

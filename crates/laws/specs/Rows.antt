@@ -23,14 +23,18 @@ fragment m e i = record { mode = m; entry = e; index = i }
 abbrev pub givenBy : (given n : ℕ) → Option ℕ
 givenBy given n = pick (eqb given 1) (some n) none
 
--- name's place, name's length, size, flags as read, addr given, addr
+-- name's place, name's length, size, flags as read, addr given, addr; the known bits are no part of it
 unfoldable pub areaAt : List ℕ → ℕ → Area
 areaAt rows i = record {
-  name = record { at = getD rows (6 * i) 0; length = getD rows (6 * i + 1) 0 };
-  size = getD rows (6 * i + 2) 0;
-  flags = getD rows (6 * i + 3) 0;
-  addr = givenBy (getD rows (6 * i + 4) 0) (getD rows (6 * i + 5) 0);
+  name = record { at = getD rows (7 * i) 0; length = getD rows (7 * i + 1) 0 };
+  size = getD rows (7 * i + 2) 0;
+  flags = getD rows (7 * i + 3) 0;
+  addr = givenBy (getD rows (7 * i + 4) 0) (getD rows (7 * i + 5) 0);
 }
+
+-- the known bits that the i-th area's row has
+unfoldable pub knownAt : List ℕ → ℕ → ℕ
+knownAt rows i = getD rows (7 * i + 6) 0
 
 unfoldable pub areasIn : List ℕ → ℕ → List Area
 areasIn rows n = from (areaAt rows) 0 n

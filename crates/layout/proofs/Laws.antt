@@ -27,7 +27,7 @@ module _ (m n : ℕ) where
 pub fixups-out : {k : ℕ} (kept : ℕ) {n : ℕ} {rows out out′ : List ℕ} {r : Grouped} → n ≡ most 64 kept → Regrouped k n rows out r out′ → FixupsOut k kept rows out out′
 fixups-out kept e w = record { stored = rw (← e) (w .stored) }
 
-pub tables-out : (na ns : ℕ) {a s : ℕ} {xs ys areas symbols areas′ symbols′ : List ℕ} → a ≡ most 64 na → s ≡ most 1024 ns → areas′ ≡ sets areas 0 (take (6 * a) xs) → symbols′ ≡ sets symbols 0 (take (5 * s) ys)
+pub tables-out : (na ns : ℕ) {a s : ℕ} {xs ys areas symbols areas′ symbols′ : List ℕ} → a ≡ most 64 na → s ≡ most 1024 ns → areas′ ≡ sets areas 0 (take (7 * a) xs) → symbols′ ≡ sets symbols 0 (take (5 * s) ys)
     → TablesOut na ns xs ys areas symbols areas′ symbols′
 tables-out na ns e f a b = record { of-areas = rw (← e) a; of-symbols = rw (← f) b }
 
@@ -43,7 +43,7 @@ pub fixups-laid : {k kept : ℕ} {rows fixups fixups′ : List ℕ} → FixupsOu
 unfolding roomFor most
 fixups-laid {k} {kept} {rows} {fixups} w h i j = rw (le-leb (9 * k) (length rows) h, le-leb (9 * k) (length fixups) i, le-leb kept 64 j) at (w .stored)
 
-pub areas-laid : {na ns : ℕ} {xs ys areas symbols areas′ symbols′ : List ℕ} → TablesOut na ns xs ys areas symbols areas′ symbols′ → na ≤ 64 → areas′ ≡ sets areas 0 (take (6 * na) xs)
+pub areas-laid : {na ns : ℕ} {xs ys areas symbols areas′ symbols′ : List ℕ} → TablesOut na ns xs ys areas symbols areas′ symbols′ → na ≤ 64 → areas′ ≡ sets areas 0 (take (7 * na) xs)
 unfolding most
 areas-laid {na} w h = rw (le-leb na 64 h) at (w .of-areas)
 

@@ -18,7 +18,7 @@ pub record FixupsOut (k kept : ℕ) (rows fixups fixups′ : List ℕ) : Type 0 
   pub stored : fixups′ ≡ pick (roomFor k rows fixups) (over (areasFor (most 64 kept) 0 (fixupsIn rows k)) fixups) fixups
 
 pub record TablesOut (na ns : ℕ) (xs ys areas symbols areas′ symbols′ : List ℕ) : Type 0 where
-  pub of-areas : areas′ ≡ sets areas 0 (take (6 * most 64 na) xs)
+  pub of-areas : areas′ ≡ sets areas 0 (take (7 * most 64 na) xs)
   pub of-symbols : symbols′ ≡ sets symbols 0 (take (5 * most 1024 ns) ys)
 
 pub record ImagesOut (positions k kept : ℕ) (vs ms rows values masks fixups values′ masks′ fixups′ : List ℕ) : Type 0 where

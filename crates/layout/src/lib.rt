@@ -12,7 +12,7 @@ fn at_most(m: usize, n: usize) -> usize
     if n <= m { n } else { m }
 }
 
-fn copy_areas(dst: &mut [u32], src: &[u32; 384], n: usize)
+fn copy_areas(dst: &mut [u32], src: &[u32; 448], n: usize)
     ensures { λ _. ⌜ now (dst .exit) ≡ sets (now (dst .entry)) 0 (take n (now (src .entry))) ⌝ }
 {
     cells::copy_u32s(dst, 0, src, n)
@@ -42,7 +42,7 @@ fn copy_fixups(dst: &mut [u32], rows: &[u32; 9216], k: usize, kept: usize)
 pub fn lay_tables(
     na: usize,
     ns: usize,
-    xs: &[u32; 384],
+    xs: &[u32; 448],
     ys: &[u32; 5120],
     areas: &mut [u32],
     symbols: &mut [u32],
@@ -51,7 +51,7 @@ pub fn lay_tables(
 {
     let a = at_most(64, na);
     let s = at_most(1024, ns);
-    copy_areas(areas, xs, 6 * a);
+    copy_areas(areas, xs, 7 * a);
     copy_symbols(symbols, ys, 5 * s)
 }
 

@@ -88,7 +88,7 @@ pub(crate) fn lines(
     out: &mut Buffer,
     text: &[u8],
     counts: Counts,
-    areas: &[u32; 384],
+    areas: &[u32; 448],
     symbols: &[u32; 5120],
     values: &[u8; 65536],
     masks: &[u8; 65536],

@@ -177,7 +177,7 @@ fn of_plain(answer: reading::Answer, n: usize) -> Given {
 fn read(
     ended: bool,
     text: &[u8],
-    areas: &mut [u32; 384],
+    areas: &mut [u32; 448],
     symbols: &mut [u32; 5120],
     values: &mut [u8; 65536],
     masks: &mut [u8; 65536],
@@ -195,7 +195,7 @@ fn read(
 
 // A text's whole listing, and what standard error is told of a module of this name.
 pub(crate) fn list(how: How, s: Sink, out: &mut Buffer, text: &[u8], name: &[u8]) -> Sink {
-    let mut areas = [0u32; 384];
+    let mut areas = [0u32; 448];
     let mut symbols = [0u32; 5120];
     let mut values = [0u8; 65536];
     let mut masks = [0u8; 65536];

@@ -15,13 +15,14 @@ use Rattle.format.specs.Outcome.{fine}
 use Rattle.format.specs.Records.{Parsed, Taken, Verdict, finished, parsed, stop, stopped, verdict}
 use Rattle.format.specs.Tables.{Tables, keptCount}
 use Rattle.format.specs.Fixups.{Fixup, byArea}
-use Rattle.format.specs.Rows.{areaNumbers, fixupNumbers, symbolNumbers}
+use Rattle.format.specs.Rows.{areaTable, fixupNumbers, symbolNumbers}
 use Rattle.format.specs.Reading.{Built, Counts, Lent, Read, Reading, accepted, allowed, countsOf, fixupsOf, read, reading, readingOf}
 use Rattle.laws.specs.PairRows.{allRows}
 use Rattle.laws.proofs.Opened.{opened, opens}
 use Rattle.laws.proofs.WasRead.{what-was-read}
 use Rattle.order.specs.Writes.{rows}
-use Rattle.order.specs.Order.{Apart, knownBits}
+use Rattle.format.specs.Known.{knownBits}
+use Rattle.order.specs.Order.{Apart}
 use Rattle.order.specs.Texts.{OtherText, ReadAlike, exchanged}
 use Rattle.order.proofs.Bytes.{exchanged-allowed, exchanged-length}
 use Rattle.order.proofs.Grouped.{flat-runs, grouped-apart, grouped-together}
@@ -100,7 +101,7 @@ module _ (l : Lent) (text other : List ℕ) (w : Read) (before behind : List (Ta
         (ap length (o .fixups) ∙ (as-many (allRows fm t before) (rows fm t a) (rows fm t b) (allRows fm t behind) ∙ sym (ap length (o .other-fixups)))))
         ∙ (ap (λ (v : Verdict). accepted (countsOf (o .other .built)) v) (same-verdict text other (w .parsed) (o .other .parsed) same-stop same-length)
         ∙ sym (ap (λ (r : Reading). r .answer) other-read)));
-    areas = ap (λ (r : Reading). r .areas) one-read ∙ (ap (λ (x : Tables). flat areaNumbers (x .areas)) (o .same-tables) ∙ sym (ap (λ (r : Reading). r .areas) other-read));
+    areas = ap (λ (r : Reading). r .areas) one-read ∙ ((λ j. areaTable (o .same-tables j .areas) (o .same .masks j)) ∙ sym (ap (λ (r : Reading). r .areas) other-read));
     symbols = ap (λ (r : Reading). r .symbols) one-read ∙ (ap (λ (x : Tables). flat symbolNumbers (x .symbols)) (o .same-tables) ∙ sym (ap (λ (r : Reading). r .symbols) other-read));
     values = ap (λ (r : Reading). r .values) one-read ∙ (o .same .values ∙ sym (ap (λ (r : Reading). r .values) other-read));
     masks = same-masks;

@@ -16,7 +16,8 @@ use Rattle.laws.proofs.Outcomes.{chain, fold-prefix}
 use Rattle.laws.proofs.Placing.{allRows, placing-rows}
 use Rattle.laws.proofs.Room.{sized-placing}
 use Rattle.order.specs.Writes.{Cell, writes, rows, lay, after, wrote}
-use Rattle.order.specs.Order.{Apart, knownBits, SameImages, Exchanged, Once, Twice, Reordered, as-is, then-exchange, Sorted}
+use Rattle.format.specs.Known.{knownBits}
+use Rattle.order.specs.Order.{Apart, SameImages, Exchanged, Once, Twice, Reordered, as-is, then-exchange, Sorted}
 use Rattle.order.proofs.Cells.{lay-append, lay-twice, lay-either}
 use Rattle.order.proofs.Placed.{puts-pair}
 use Rattle.order.proofs.Pair.{ascends-pair}

@@ -14,7 +14,7 @@ use Rattle.order.specs.Texts.{exchanged}
 
 -- buffers of just their bounds
 pub lent : Lent
-lent = record { areas = 64 * 6; symbols = 1024 * 5; values = 65536; masks = 65536; fixups = 1024 * 9 }
+lent = record { areas = 64 * 7; symbols = 1024 * 5; values = 65536; masks = 65536; fixups = 1024 * 9 }
 
 -- 1 at position 0, and then 2
 pub one-order : List ℕ

@@ -6,13 +6,13 @@ use mathlib.Core.Path.{_≡_}
 use mathlib.Core.Bool.{true}
 use mathlib.Core.List.{List, [], _∷_, _++_}
 use lib.ListN.{length, take, drop}
-use lib.Count.{ones}
 use Rattle.format.specs.Header.{Form}
 use Rattle.format.specs.Pairs.{Pair}
 use Rattle.format.specs.Outcome.{andThen, fine}
 use Rattle.format.specs.Records.{Taken}
-use Rattle.format.specs.Tables.{Tables, Area, offset}
-use Rattle.format.specs.Placing.{State, extent, placePair, placing}
+use Rattle.format.specs.Tables.{Tables, Area}
+use Rattle.format.specs.Placing.{State, placePair, placing}
+use Rattle.format.specs.Known.{knownBits}
 use Rattle.laws.specs.PairRows.{allRows}
 use Rattle.order.specs.Writes.{rows, wrote}
 
@@ -24,15 +24,6 @@ bodies (p ∷ ps) = p .body ∷ bodies ps
 -- two pairs that write no common position
 pub record Apart (fm : Form) (t : Tables) (a b : Taken Pair) : Type 0 where
   pub apart : (i : ℕ) → wrote fm t a i ≡ true → wrote fm t b i ≡ true → ⊥
-
--- the ones in some masks
-unfoldable pub onesOf : List ℕ → ℕ
-onesOf [] = 0
-onesOf (m ∷ ms) = ones m + onesOf ms
-
--- the known bits of the i-th area
-unfoldable pub knownBits : List Area → ℕ → List ℕ → ℕ
-knownBits areas i masks = onesOf (take (extent areas i) (drop (offset areas i) masks))
 
 -- two states with the same images
 pub record SameImages (areas : List Area) (s u : State) : Type 0 where

@@ -17,7 +17,8 @@ use Rattle.format.specs.Rows.{fixupNumbers}
 use Rattle.format.specs.Reading.{Lent, Read, read, reading}
 use Rattle.laws.specs.PairRows.{allRows}
 use Rattle.order.specs.Writes.{rows}
-use Rattle.order.specs.Order.{SameImages, knownBits}
+use Rattle.format.specs.Known.{knownBits}
+use Rattle.order.specs.Order.{SameImages}
 
 -- a module that was read, whose pairs are some with a before b between them; and another text with the same form and entries and the same
 -- pairs, but b before a: it is read too, with the same tables, counts and images, and the same fixups, the rows of b before those of a

@@ -8,3 +8,4 @@ pub mod CellLaws
 pub mod CellOf
 pub mod Use
 pub mod Unique
+pub mod KnownRows

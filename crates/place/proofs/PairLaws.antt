@@ -22,6 +22,7 @@ use Rattle.sites.specs.declared.Filled.{Filled}
 use Rattle.sites.specs.declared.Site.{Site}
 use Rattle.sites.specs.Site.{lineFits, filledFits}
 use Rattle.sites.proofs.Fitting.{Counted, counted}
+use Rattle.images.proofs.CountLaws.{known-still}
 use Rattle.place.specs.declared.pair.Placed.{Placed}
 use Rattle.place.specs.declared.pair.Placed.the-variants.{Done, Misfit}
 use Rattle.place.specs.declared.site.Found.{Found}
@@ -65,12 +66,13 @@ module _ (table : List ℕ) (l : Line) (h : Home) (bs ms es xs areas symbols : L
   unfolding fits
   fits-is b e = rw (e, ec) (sym (and-assoc (eqb (h .area) (l .area)) (lineFits l (length bs) && filledFits n (length rs)) b))
 
-  pub pair-misfit : not c ≡ true → PairPlaced (fits table l h bs ms n rs) (pairIn l h bs ms es xs areas symbols n (stateOf vs masks rs (n .fixups))) vs masks rs Misfit vs masks rs
+  pub pair-misfit : not c ≡ true → PairPlaced (fits table l h bs ms n rs) (pairIn l h bs ms es xs areas symbols n (stateOf vs masks rs (n .fixups))) (n .known) vs masks rs Misfit vs masks rs
   pair-misfit k = record {
     says = λ radix end. rw (fits-is _ refl, not-true c k);
     few = omega arith;
     rest = refl;
     same = λ e. (refl, (refl, refl));
+    bits = known-still (n .known) masks refl;
   }
 
   module _ (k : not c ≡ false) where
@@ -82,18 +84,19 @@ module _ (table : List ℕ) (l : Line) (h : Home) (bs ms es xs areas symbols : L
       unfolding found
       found-is e = sym ef ∙ e
 
-      pub pair-unkept : f ≡ at.Unkept → PairPlaced (fits table l h bs ms n rs) (pairIn l h bs ms es xs areas symbols n (stateOf vs masks rs (n .fixups))) vs masks rs (Done (n .fixups)) vs masks rs
+      pub pair-unkept : f ≡ at.Unkept → {known : ℕ} → known ≡ n .known → PairPlaced (fits table l h bs ms n rs) (pairIn l h bs ms es xs areas symbols n (stateOf vs masks rs (n .fixups))) (n .known) vs masks rs (Done (n .fixups) known) vs masks rs
       unfolding pairIn
-      pair-unkept e =
+      pair-unkept e d =
           let o : lastIndex (h .id) ≡ none = unkept-by table ms (h .start) (h .size) l n (lastIndex (h .id)) _ refl (found-is e) in
           record {
             says = λ radix end. rw (fits-is true (rw o), not-false c k, o);
             few = facts .fixups;
             rest = refl;
             same = λ g. (refl, (refl, refl));
+            bits = known-still (n .known) masks d;
           }
 
-      pub pair-nowhere : f ≡ at.Misfit → PairPlaced (fits table l h bs ms n rs) (pairIn l h bs ms es xs areas symbols n (stateOf vs masks rs (n .fixups))) vs masks rs Misfit vs masks rs
+      pub pair-nowhere : f ≡ at.Misfit → PairPlaced (fits table l h bs ms n rs) (pairIn l h bs ms es xs areas symbols n (stateOf vs masks rs (n .fixups))) (n .known) vs masks rs Misfit vs masks rs
       pair-nowhere e =
           let u : keptFits table ms (h .start) (h .size) (l .fragments) (lastIndex (h .id)) ≡ false = misfit-by table ms (h .start) (h .size) l n (lastIndex (h .id)) _ refl (found-is e) in
           record {
@@ -101,6 +104,7 @@ module _ (table : List ℕ) (l : Line) (h : Home) (bs ms es xs areas symbols : L
             few = omega arith;
             rest = refl;
             same = λ g. (refl, (refl, refl));
+            bits = known-still (n .known) masks refl;
           }
 
       module _ {s : Site} (g : f ≡ at.At s) where
@@ -130,13 +134,14 @@ module _ (table : List ℕ) (l : Line) (h : Home) (bs ms es xs areas symbols : L
         unfolding pairIn sitePair
         site-pair radix end = rw (here .is, here .ranks)
 
-        pub pair-done : {r : Placed} {vs′ masks′ rs′ : List ℕ} → PairPlaced true (sitePair s bs ms es xs areas symbols (stateOf vs masks rs (s .filled .fixups))) vs masks rs r vs′ masks′ rs′
-            → PairPlaced (fits table l h bs ms n rs) (pairIn l h bs ms es xs areas symbols n (stateOf vs masks rs (n .fixups))) vs masks rs r vs′ masks′ rs′
+        pub pair-done : {r : Placed} {vs′ masks′ rs′ : List ℕ} → PairPlaced true (sitePair s bs ms es xs areas symbols (stateOf vs masks rs (s .filled .fixups))) (s .filled .known) vs masks rs r vs′ masks′ rs′
+            → PairPlaced (fits table l h bs ms n rs) (pairIn l h bs ms es xs areas symbols n (stateOf vs masks rs (n .fixups))) (n .known) vs masks rs r vs′ masks′ rs′
         pair-done a = record {
           says = λ radix end. rw (fits-is true (rw (here .ranks) (here .fitting)), not-false c k, ← site-pair radix end) (a .says radix end);
           few = a .few;
           rest = a .rest;
           same = a .same;
+          bits = rw (ap (λ (x : Site). x .filled .known) (here .is)) at (a .bits);
         }
 
 pub ruleset placing = (needs, pair-misfit, pair-unkept, pair-nowhere, pair-placeable, pair-done)

@@ -14,8 +14,8 @@ use Rattle.laws.specs.Rows.{from, fixupsIn, stateOf}
 use Rattle.sites.specs.declared.Site.{Site}
 use Rattle.sites.specs.Columns.{fragmentAt, fragmentsIn}
 use Rattle.sites.specs.Site.{isReady, madeAt}
-use Rattle.images.specs.Image.{plainValues, plainMasks, Plain, Written}
-use Rattle.images.proofs.Use.{plain-when}
+use Rattle.images.specs.Image.{plainValues, plainMasks, moved, Written}
+use Rattle.images.proofs.Use.{Laid, plain-when}
 use Rattle.fixups.specs.Walk.{siteOf, lineAt}
 use Rattle.fixups.proofs.NextLaws.{none-left}
 use Rattle.place.specs.declared.pair.Placed.the-variants.{Done}
@@ -52,14 +52,14 @@ module _ {table : List ℕ} (s : Site) (bs ms es xs areas symbols vs masks rs : 
       (none-left (siteOf areas symbols [] (madeAt s 0) place) (s .size) ms es xs (s .line .fragments) wk (s .line .width + s .line .bytes) 0 (s .line .address) (fixupsIn rs (s .filled .fixups))
       {r = s .line .width + s .line .bytes} (record { above = omega arith; none = λ i g q v. absurd (omega arith) }) (omega arith))
 
-  laid : {vs′ masks′ : List ℕ} → Plain s bs vs masks vs′ masks′ → PairPlaced true (sitePair s bs ms es xs areas symbols (stateOf vs masks rs (s .filled .fixups))) vs masks rs (Done (s .filled .fixups)) vs′ masks′ rs
+  laid : {vs′ masks′ : List ℕ} → Laid s bs vs masks vs′ masks′ → {known : ℕ} → known ≡ moved (s .filled .known) masks masks′ → PairPlaced true (sitePair s bs ms es xs areas symbols (stateOf vs masks rs (s .filled .fixups))) (s .filled .known) vs masks rs (Done (s .filled .fixups) known) vs′ masks′ rs
   unfolding wv wm wk plainValues plainMasks
-  laid i =
+  laid i k =
       pair-processed s bs ms es xs areas symbols vs masks rs fresh-line
-      (walked s ms es xs areas symbols [] wv wm wk vs masks rs (p .ready) refl no-rows (p .ready .fixups) refl (record { values = i .values; masks = i .masks }))
+      (walked s ms es xs areas symbols [] wv wm wk vs masks rs (p .ready) refl no-rows (p .ready .fixups) refl (record { values = i .values; masks = i .masks }) k)
 
-  pub pair-plain : {vs′ masks′ : List ℕ} {t : Bool} → Written (isReady s && leb (s .line .bytes) (length bs)) (plainValues s bs vs) (plainMasks s masks) vs masks t vs′ masks′
-      → PairPlaced true (sitePair s bs ms es xs areas symbols (stateOf vs masks rs (s .filled .fixups))) vs masks rs (Done (s .filled .fixups)) vs′ masks′ rs
-  pair-plain w = laid (plain-when (p .ready) bs (p .lent) w)
+  pub pair-plain : {vs′ masks′ : List ℕ} {t : ℕ} → Written (isReady s && leb (s .line .bytes) (length bs)) (plainValues s bs vs) (plainMasks s masks) (s .filled .known) vs masks t vs′ masks′
+      → PairPlaced true (sitePair s bs ms es xs areas symbols (stateOf vs masks rs (s .filled .fixups))) (s .filled .known) vs masks rs (Done (s .filled .fixups) t) vs′ masks′ rs
+  pair-plain w = laid (plain-when (p .ready) bs (p .lent) w) (w .answer)
 
 pub ruleset plainly = (needs, pair-plain)

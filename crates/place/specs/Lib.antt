@@ -2,3 +2,4 @@ pub mod Work
 pub mod Site
 pub mod Pair
 pub mod Cell
+pub mod Kept

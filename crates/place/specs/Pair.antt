@@ -23,6 +23,7 @@ use Rattle.sites.specs.declared.Site.{Site}
 use Rattle.sites.specs.Columns.{fragmentsIn}
 use Rattle.place.specs.declared.work_line.Worked.{Worked}
 use Rattle.classes.specs.Named.{Named}
+use Rattle.images.specs.Image.{moved}
 use Rattle.place.specs.Work as work
 use Rattle.sites.specs.Site.{lineFits, filledFits, Ready}
 use Rattle.place.specs.Site.{imageFits, siteAt}
@@ -46,13 +47,13 @@ tablesOf areas symbols s = tablesIn areas (s .filled .areas) symbols (s .filled 
 -- the same for a kept area at its site
 unfoldable pub pairAt : Site → (bs ms es xs areas symbols : List ℕ) → State → (radix place : ℕ) → Outcome State
 pairAt s bs ms es xs areas symbols st radix place =
-    placeAt (formOf radix (s .line)) (tablesOf areas symbols s) place (s .home) (s .start) (s .size) (contentOf (s .line) bs) (fragmentsIn ms es xs (s .line .fragments)) st
+    placeAt (formOf radix (s .line)) (tablesOf areas symbols s) place (s .id) (s .start) (s .size) (contentOf (s .line) bs) (fragmentsIn ms es xs (s .line .fragments)) st
 
 -- the same with the work line as the fragments left it
 unfoldable pub afterWork : Site → Worked → (ms es xs areas symbols ns wv wm wk : List ℕ) → State → (radix place : ℕ) → Outcome State
 afterWork s worked ms es xs areas symbols ns wv wm wk st radix place =
     andThen (work.told place worked wv wm wk ns) (λ d.
-    walk (walkBy (tablesOf areas symbols s) place (s .home) (s .start) (s .size) (fragmentsIn ms es xs (s .line .fragments)) d) (s .line .width + s .line .bytes) 0 (s .line .address) st)
+    walk (walkBy (tablesOf areas symbols s) place (s .id) (s .start) (s .size) (fragmentsIn ms es xs (s .line .fragments)) d) (s .line .width + s .line .bytes) 0 (s .line .address) st)
 
 -- both at the place of the site's line
 unfoldable pub sitePair : Site → (bs ms es xs areas symbols : List ℕ) → State → (radix end : ℕ) → Outcome State
@@ -81,19 +82,25 @@ fits table l h bs ms n rows =
 
 -- what an answer says, with the images and the rows as they are then
 abbrev pub told : Placed → (vs ms rows : List ℕ) → Option (Outcome State)
-told (Done k) vs ms rows = some (fine (stateOf vs ms rows k))
+told (Done k known) vs ms rows = some (fine (stateOf vs ms rows k))
 told (Stopped n p) vs ms rows = some (refused n p)
 told Misfit vs ms rows = none
 
 -- how many rows are in use then, as far as it is told
 abbrev pub usedNow : Placed → ℕ
-usedNow (Done k) = k
+usedNow (Done k known) = k
 usedNow (Stopped n p) = 0
 usedNow Misfit = 0
 
+-- the known bits of the pair's area then
+abbrev pub knownNow : ℕ → Placed → ℕ
+knownNow known (Done k then) = then
+knownNow known (Stopped n p) = known
+knownNow known Misfit = known
+
 -- whether anything may have changed
 abbrev pub changes : Placed → Bool
-changes (Done k) = true
+changes (Done k known) = true
 changes (Stopped n p) = false
 changes Misfit = false
 
@@ -109,9 +116,10 @@ pub record Placeable (table : List ℕ) (s : Site) (bs ms rows : List ℕ) : Typ
   pub lent : s .line .bytes ≤ length bs
   pub room : 9216 ≤ length rows
 
--- a pair of any area, and every lent byte: where it fits, what the definition says; else a misfit; and nothing has changed unless it is placed
-pub record PairPlaced (fit : Bool) (o : (radix end : ℕ) → Outcome State) (vs ms rows : List ℕ) (r : Placed) (vs′ ms′ rows′ : List ℕ) : Type 0 where
+-- a pair of any area, and every lent byte: where it fits, what the definition says; else a misfit; nothing has changed unless it is placed; and the known bits have moved as the ones of the masks
+pub record PairPlaced (fit : Bool) (o : (radix end : ℕ) → Outcome State) (known : ℕ) (vs ms rows : List ℕ) (r : Placed) (vs′ ms′ rows′ : List ℕ) : Type 0 where
   pub says : (radix end : ℕ) → told r vs′ ms′ rows′ ≡ pick fit (some (o radix end)) none
   pub few : usedNow r ≤ 1024
   pub rest : drop (9 * usedNow r) rows′ ≡ drop (9 * usedNow r) rows
   pub same : changes r ≡ false → (vs′ ≡ vs) × ((ms′ ≡ ms) × (rows′ ≡ rows))
+  pub bits : knownNow known r ≡ moved known ms ms′

@@ -21,7 +21,7 @@ imageFits table ms start size c = leb (start + size) 65536 && names table ms 0 c
 
 -- the site of a pair whose area has an id
 abbrev pub siteAt : Line → Filled → (id start size : ℕ) → Site
-siteAt l n id start size = record { line = l; filled = n; home = id; start = start; size = size; made = 0 }
+siteAt l n id start size = record { line = l; filled = n; id = id; start = start; size = size; made = 0 }
 
 -- where a pair goes, by the id of its area's home
 abbrev pub foundBy : (table ms : List ℕ) (start size : ℕ) → Line → Filled → Option ℕ → Found

@@ -4,6 +4,7 @@ use crate::site::home_fits;
 use crate::site::locate;
 use crate::work_line::Worked;
 use crate::work_line::work_line;
+use cells::wide;
 use fixups::Rowed;
 use fixups::pair_rows;
 use homes::Home;
@@ -20,9 +21,9 @@ ghost use Rattle.sites.specs.Site.{Ready};
 ghost use Rattle.place.specs.Work.{madeBy};
 ghost use Rattle.place.specs.Pair.{fits, workedPair, sitePair, pairIn, Placeable, PairPlaced};
 
-// How many fixup rows there are then; a refusal's number with the T line's place; or that the numbers do not fit.
+// How many fixup rows there are then, and the known bits of the area; a refusal's number with the T line's place; or that the numbers do not fit.
 pub enum Placed {
-    Done(usize),
+    Done(usize, usize),
     Stopped(u32, usize),
     Misfit,
 }
@@ -46,7 +47,7 @@ fn place_worked(
 ) -> Placed
     requires { ⌜ Ready site ⌝ }
     requires { ⌜ (madeBy worked ≤ 64) × (9216 ≤ length (now rows)) ⌝ }
-    ensures { λ r. ⌜ PairPlaced true (workedPair site worked (now (ms .entry)) (now (es .entry)) (now (xs .entry)) (now (areas .entry)) (now (symbols .entry)) (now (ns .entry)) (now (wv .entry)) (now (wm .entry)) (now (wk .entry)) (stateOf (now (values .entry)) (now (masks .entry)) (now (rows .entry)) (site .filled .fixups))) (now (values .entry)) (now (masks .entry)) (now (rows .entry)) r (now (values .exit)) (now (masks .exit)) (now (rows .exit)) ⌝ }
+    ensures { λ r. ⌜ PairPlaced true (workedPair site worked (now (ms .entry)) (now (es .entry)) (now (xs .entry)) (now (areas .entry)) (now (symbols .entry)) (now (ns .entry)) (now (wv .entry)) (now (wm .entry)) (now (wk .entry)) (stateOf (now (values .entry)) (now (masks .entry)) (now (rows .entry)) (site .filled .fixups))) (site .filled .known) (now (values .entry)) (now (masks .entry)) (now (rows .entry)) r (now (values .exit)) (now (masks .exit)) (now (rows .exit)) ⌝ }
 {
     let Worked::Numbers(n) = worked else {
         return Placed::Stopped(10, site.line.place);
@@ -55,8 +56,8 @@ fn place_worked(
         Rowed::Misfit => Placed::Misfit,
         Rowed::Refused(x) => Placed::Stopped(x, site.line.place),
         Rowed::Rows(k) => {
-            write_image(site, wv, wm, wk, values, masks);
-            Placed::Done(k)
+            let known = write_image(site, wv, wm, wk, values, masks);
+            Placed::Done(k, known)
         }
     }
 }
@@ -76,7 +77,7 @@ fn place_fragments(
     rows: &mut [u32],
 ) -> Placed
     requires { ⌜ Placeable (now table) site (now bs) (now ms) (now rows) ⌝ }
-    ensures { λ r. ⌜ PairPlaced true (sitePair site (now (bs .entry)) (now (ms .entry)) (now (es .entry)) (now (xs .entry)) (now (areas .entry)) (now (symbols .entry)) (stateOf (now (values .entry)) (now (masks .entry)) (now (rows .entry)) (site .filled .fixups))) (now (values .entry)) (now (masks .entry)) (now (rows .entry)) r (now (values .exit)) (now (masks .exit)) (now (rows .exit)) ⌝ }
+    ensures { λ r. ⌜ PairPlaced true (sitePair site (now (bs .entry)) (now (ms .entry)) (now (es .entry)) (now (xs .entry)) (now (areas .entry)) (now (symbols .entry)) (stateOf (now (values .entry)) (now (masks .entry)) (now (rows .entry)) (site .filled .fixups))) (site .filled .known) (now (values .entry)) (now (masks .entry)) (now (rows .entry)) r (now (values .exit)) (now (masks .exit)) (now (rows .exit)) ⌝ }
 {
     let mut wv = [0; 260];
     let mut wm = [0; 260];
@@ -116,11 +117,11 @@ fn process_relocs(
     rows: &mut [u32],
 ) -> Placed
     requires { ⌜ Placeable (now table) site (now bs) (now ms) (now rows) ⌝ }
-    ensures { λ r. ⌜ PairPlaced true (sitePair site (now (bs .entry)) (now (ms .entry)) (now (es .entry)) (now (xs .entry)) (now (areas .entry)) (now (symbols .entry)) (stateOf (now (values .entry)) (now (masks .entry)) (now (rows .entry)) (site .filled .fixups))) (now (values .entry)) (now (masks .entry)) (now (rows .entry)) r (now (values .exit)) (now (masks .exit)) (now (rows .exit)) ⌝ }
+    ensures { λ r. ⌜ PairPlaced true (sitePair site (now (bs .entry)) (now (ms .entry)) (now (es .entry)) (now (xs .entry)) (now (areas .entry)) (now (symbols .entry)) (stateOf (now (values .entry)) (now (masks .entry)) (now (rows .entry)) (site .filled .fixups))) (site .filled .known) (now (values .entry)) (now (masks .entry)) (now (rows .entry)) r (now (values .exit)) (now (masks .exit)) (now (rows .exit)) ⌝ }
 {
     if site.line.fragments == 0 {
-        write_plain(site, bs, values, masks);
-        return Placed::Done(site.filled.fixups);
+        let known = write_plain(site, bs, values, masks);
+        return Placed::Done(site.filled.fixups, known);
     }
     place_fragments(
         table,
@@ -153,13 +154,13 @@ pub fn place_pair(
     masks: &mut [u8],
     rows: &mut [u32],
 ) -> Placed
-    ensures { λ r. ⌜ PairPlaced (fits (now (table .entry)) line home (now (bs .entry)) (now (ms .entry)) filled (now (rows .entry))) (pairIn line home (now (bs .entry)) (now (ms .entry)) (now (es .entry)) (now (xs .entry)) (now (areas .entry)) (now (symbols .entry)) filled (stateOf (now (values .entry)) (now (masks .entry)) (now (rows .entry)) (filled .fixups))) (now (values .entry)) (now (masks .entry)) (now (rows .entry)) r (now (values .exit)) (now (masks .exit)) (now (rows .exit)) ⌝ }
+    ensures { λ r. ⌜ PairPlaced (fits (now (table .entry)) line home (now (bs .entry)) (now (ms .entry)) filled (now (rows .entry))) (pairIn line home (now (bs .entry)) (now (ms .entry)) (now (es .entry)) (now (xs .entry)) (now (areas .entry)) (now (symbols .entry)) filled (stateOf (now (values .entry)) (now (masks .entry)) (now (rows .entry)) (filled .fixups))) (filled .known) (now (values .entry)) (now (masks .entry)) (now (rows .entry)) r (now (values .exit)) (now (masks .exit)) (now (rows .exit)) ⌝ }
 {
     if !home_fits(home, line, filled, bs.len(), rows.len()) {
         return Placed::Misfit;
     }
     match locate(table, ms, home, line, filled) {
-        Found::Unkept => Placed::Done(filled.fixups),
+        Found::Unkept => Placed::Done(filled.fixups, wide(filled.known)),
         Found::Misfit => Placed::Misfit,
         Found::At(site) => process_relocs(
             table,

@@ -38,7 +38,7 @@ fn site_of(home: Home, line: Line, filled: Filled) -> Site
     Site {
         line: line,
         filled: filled,
-        home: home.id - 1,
+        id: home.id - 1,
         start: home.start,
         size: home.size,
         made: 0,

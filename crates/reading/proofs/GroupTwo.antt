@@ -6,7 +6,7 @@ use mathlib.Core.Bool.{Bool, true, false}
 use mathlib.Core.List.{List, [], _∷_, _++_, map, append-assoc}
 use mathlib.Core.Option.{some}
 use native.Mathlib.Omega.{arith}
-use lib.ListN.{length, take, drop, length-append, length-map, replicate, length-replicate}
+use lib.ListN.{length, getD, take, drop, length-append, length-map, replicate, length-replicate}
 use lib.Seq.{sets, length-sets, take-append-seam, getD-at}
 use lib.Dec.{ltb}
 use borrow.Author.Needs.{needs}
@@ -19,7 +19,7 @@ use Rattle.format.specs.Records.{stops, Taken, lastOf}
 use Rattle.format.specs.Tables.{Tables, fits, total}
 use Rattle.format.specs.Placing.{State, placePair}
 use Rattle.laws.specs.Places.{pairAt, pairsAt}
-use Rattle.laws.specs.Rows.{from, areasIn, tablesIn, stateOf}
+use Rattle.laws.specs.Rows.{from, areasIn, tablesIn, stateOf, knownAt}
 use Rattle.laws.proofs.Places.{pairs-at}
 use Rattle.mode.specs.Class.{classTable}
 use Rattle.header.specs.Told.{formOf, moreOf}
@@ -28,7 +28,7 @@ use Rattle.header.specs.declared.Width.{Width}
 use Rattle.header.specs.declared.Width.the-variants as wide
 use Rattle.fragments.specs.Fragments.{Rows, modes, entries, indexes}
 use Rattle.sites.specs.Columns.{fragmentAt, fragmentsIn}
-use Rattle.place.specs.Pair.{contentOf, pairOf, pairIn, fits as fitsIn, told, usedNow, PairPlaced}
+use Rattle.place.specs.Pair.{contentOf, pairOf, pairIn, fits as fitsIn, told, usedNow, changes, knownNow, PairPlaced}
 use Rattle.homes.specs.Home.{homeAt}
 use Rattle.homes.specs.declared.Home.{Home}
 use Rattle.homes.proofs.Use.{home-own}
@@ -41,7 +41,8 @@ use Rattle.steps.proofs.Stored.{laid}
 use Rattle.steps.specs.PairLines.{LeftAt, bytesAt, fragmentsAt, PlacedIs, BodyIs, stepTo, StepOf, StepSays, PairStepIs}
 use Rattle.planning.specs.Plan.{endingWith, endingOf, afterOf, steppedOf, standingIn, oneMore, refusedPair, lineFor, planOf, turnOf, twoOf}
 use Rattle.planning.proofs.Plans.{more-counted}
-use Rattle.reading.specs.Onward.{endsOf, Ended, stands, onward, onwardAt, toldTwo, FewIn, GroupedTwo, standingOf, filledOf, Sound, Ready, Columns, PlaceReady, Advances, GoesOn, TurnSays, TurnIs}
+use Rattle.reading.specs.Onward.{endsOf, Ended, stands, onward, onwardAt, toldTwo, FewIn, GroupedTwo, standingOf, filledOf, keptIn, Sound, Ready, Columns, PlaceReady, Advances, Carried, listed, CarriedBy, GoesOn, TurnSays, TurnIs}
+use Rattle.reading.proofs.Carrying.{ready-same, turn-same, carried-none, carried-then, carried-leave, carried-refused, carries, after-listed}
 use Rattle.steps.specs.declared.pair.Body.{Body}
 use Rattle.steps.specs.declared.pair.Body.the-variants.{Skipped, Placed}
 use Rattle.steps.specs.declared.pair.PairStep.{PairStep}
@@ -58,7 +59,7 @@ use Rattle.planning.specs.declared.state.Plan.the-variants.{Leave, Place}
 
 -- ------------------------------------------------------------------ small answers
 
-pub stands-through : {r : place.Placed} {k : ℕ} → r ≡ Through k → Made k ≡ standingOf r
+pub stands-through : {r : place.Placed} {k x : ℕ} → r ≡ Through k x → Made k ≡ standingOf r
 stands-through e = rw e
 
 pub stands-stopped : {r : place.Placed} {n p : ℕ} → r ≡ Stopped n p → Kept n p ≡ standingOf r
@@ -112,23 +113,27 @@ content-in bs n b e h i = rw (i, laid bs b (omega arith), e) (take-append-seam b
 -- ------------------------------------------------------------------ placing one pair
 
 told-stands : (r : place.Placed) (vs ms rows : List ℕ) (o : Outcome State) → told r vs ms rows ≡ some o → stands (standingOf r) vs ms rows ≡ o
-told-stands (Through k) vs ms rows o e = cc
+told-stands (Through k x) vs ms rows o e = cc
 told-stands (Stopped n p) vs ms rows o e = cc
 told-stands Misfit vs ms rows o e = absurd (let z : _≡_ {A = ℕ} 0 1 = cc in omega arith)
 
 module _ {l : Line} {g : Progress} {table bytes areas rows : List ℕ} (w : PlaceReady l g table bytes areas rows) (ms es xs symbols vs fs : List ℕ) where
   pub body-kept : {n p : ℕ} → g .standing ≡ Kept n p → {g′ : Progress} {u : Turn} → g′ ≡ standingIn g (g .home) (g .standing) → u ≡ afterOf g′
-      → Advances l g bytes ms es xs areas symbols vs fs rows u vs fs rows
-  body-kept e i j = record { standing = g .standing; home = g .home; answered = j ∙ ap afterOf i; says = λ radix end. rw e; sound = w .sound; homed = w .homed }
+      → (Advances l g bytes ms es xs areas symbols vs fs rows u vs fs rows) × (CarriedBy (g .areas) areas fs u areas fs)
+  body-kept e i j = (
+    record { standing = g .standing; home = g .home; answered = j ∙ ap afterOf i; says = λ radix end. rw e; sound = w .sound; homed = w .homed },
+    carried-refused areas fs g (g .home) (g .standing) i j,
+  )
 
-  pub body-made : {k : ℕ} → g .standing ≡ Made k → {q : Filled} → q ≡ filledOf g k → {h : Home} → h ≡ homeAt areas (g .areas) (l .area) → {r : place.Placed} {vs′ fs′ rows′ : List ℕ}
-      → PairPlaced (fitsIn table l h bytes ms q rows) (pairIn l h bytes ms es xs areas symbols q (stateOf vs fs rows (q .fixups))) vs fs rows r vs′ fs′ rows′
+  pub body-made : {k : ℕ} → g .standing ≡ Made k → {x : ℕ} → x ≡ knownAt areas (l .area) → {q : Filled} → q ≡ filledOf g k x → {h : Home} → h ≡ homeAt areas (g .areas) (l .area) → {r : place.Placed} {vs′ fs′ rows′ : List ℕ}
+      → PairPlaced (fitsIn table l h bytes ms q rows) (pairIn l h bytes ms es xs areas symbols q (stateOf vs fs rows (q .fixups))) (q .known) vs fs rows r vs′ fs′ rows′ → ((j : ℕ) → getD fs′ j 0 < 256)
+      → {areas′ : List ℕ} → areas′ ≡ keptIn areas (l .area) r
       → {s : Standing} {g′ : Progress} {u : Turn} → s ≡ standingOf r → g′ ≡ standingIn g h s → u ≡ afterOf g′
-      → Advances l g bytes ms es xs areas symbols vs fs rows u vs′ fs′ rows′
+      → (Advances l g bytes ms es xs areas symbols vs fs rows u vs′ fs′ rows′) × (CarriedBy (g .areas) areas fs u areas′ fs′)
   unfolding pairOf
-  body-made {k} e {q} i {h} eh {r} {vs′} {fs′} {rows′} d {s} j n u =
+  body-made {k} e {x} ex {q} i {h} eh {r} {vs′} {fs′} {rows′} d small {areas′} ea {s} {g′} j n u =
       let made : Sound areas (g .areas) (Made k) = rw e at (w .sound) in
-      let can : Fit table l h bytes areas (filledOf g k) rows = record {
+      let can : Fit table l h bytes areas (filledOf g k x) rows = record {
         classes = w .classes;
         home = eh;
         address = w .address;
@@ -142,17 +147,24 @@ module _ {l : Line} {g : Progress} {table bytes areas rows : List ℕ} (w : Plac
         room = w .room;
       } in
       let fit : fitsIn table l h bytes ms q rows ≡ true = rw i (fits-when can ms) in
-      record {
-        standing = standingOf r;
-        home = h;
-        answered = u ∙ ap afterOf (n ∙ ap (standingIn g h) j);
-        says = λ radix end. rw e (told-stands r vs′ fs′ rows′ _ (rw (fit, i) at (d .says radix end)) ∙ placed-when can ms es xs symbols (stateOf vs fs rows k) radix end);
-        sound = go r (d .few) (made .1);
-        homed = eh ∙ ap (homeAt areas (g .areas)) (sym (home-own areas (g .areas) (l .area) eh));
-      }
+      let placed : told r vs′ fs′ rows′ ≡ some (pairOf l bytes ms es xs areas symbols q (stateOf vs fs rows k) 16 0) =
+      (rw (fit, i) at (d .says 16 0)) ∙ ap some (placed-when can ms es xs symbols (stateOf vs fs rows k) 16 0 ∙ rw i) in (
+        record {
+          standing = standingOf r;
+          home = h;
+          answered = u ∙ ap afterOf (n ∙ ap (standingIn g h) j);
+          says = λ radix end. rw e (told-stands r vs′ fs′ rows′ _ (rw (fit, i) at (d .says radix end)) ∙ placed-when can ms es xs symbols (stateOf vs fs rows k) radix end);
+          sound = go r (d .few) (made .1);
+          homed = eh ∙ ap (homeAt areas (g .areas)) (sym (home-own areas (g .areas) (l .area) eh));
+        },
+        record {
+          carried = carries areas symbols (g .areas) (made .1) l bytes ms es xs q (ap (λ (y : Filled). y .areas) i) vs fs rows k r vs′ fs′ rows′ small placed (λ c. d .same c .1 .0) (ap (λ (y : Filled). y .known) i ∙ ex) (d .bits) ea;
+          as-many = rw u (after-listed (g .areas) g′ (ap (λ (y : Progress). y .areas) n));
+        },
+      )
     where
       go : (r : place.Placed) → usedNow r ≤ 1024 → total (areasIn areas (g .areas)) ≤ 65536 → Sound areas (g .areas) (standingOf r)
-      go (Through k) a b = (a, b)
+      go (Through k y) a b = (a, b)
       go (Stopped n p) a b = tt
       go Misfit a b = tt
 
@@ -439,6 +451,9 @@ module _ {ended : Bool} (f : text.Form) {text areas : List ℕ} {g : Progress} (
       ∙ onward-step (formOf f) t x (pick (plan .on) (pairsAt ended (formOf f) text (plan .next)) []) g (g .lines + 1) (plan .next) (plan .on) (a .home) (a .standing) vs fs rows vs′ fs′ rows′
       (fits-both (here .pair) (g .next) (plan .end) (g .lines) w (plan .short) (plan .few)) h))
 
+  pub turn-carries : {zs os zs′ os′ : List ℕ} {r : Turn} → CarriedBy (g′ .areas) zs os r zs′ os′ → CarriedBy (g .areas) zs os r zs′ os′
+  turn-carries {zs} {os} {zs′} {os′} {r} d = subst (λ (n : ℕ). CarriedBy n zs os r zs′ os′) (ap (λ (x : Progress). x .areas) (sym (plan .going))) d
+
 -- what a turn asks on the way
 pub ready-inside : {text areas : List ℕ} {g : Progress} → Ready text areas g → g .next ≤ length text
 ready-inside w = w .inside
@@ -464,38 +479,66 @@ pub ruleset lending = (needs, columns-start, columns-then)
 
 -- ------------------------------------------------------------------ the loop
 
-pub record Rounds (ended : Bool) (f : Form) (text areas symbols : List ℕ) (g₀ : Progress) (vs₀ ms₀ rows₀ : List ℕ) (g : Progress) (vs ms rows : List ℕ) : Type 0 where
+pub record Rounds (ended : Bool) (f : Form) (text areas symbols : List ℕ) (g₀ : Progress) (vs₀ ms₀ rows₀ : List ℕ) (g : Progress) (now vs ms rows : List ℕ) : Type 0 where
   pub rest : onwardAt ended f text areas symbols g₀ vs₀ ms₀ rows₀ ≡ onwardAt ended f text areas symbols g vs ms rows
   pub ready : Ready text areas g
   pub values-long : length vs ≡ length vs₀
   pub masks-long : length ms ≡ length ms₀
   pub rows-long : length rows ≡ length rows₀
+  pub areas-long : length now ≡ length areas
+  pub carried : Carried (g₀ .areas) areas ms₀ now ms
+  pub as-many : g .areas ≡ g₀ .areas
 
-pub round-start : (ended : Bool) (f : Form) (text areas symbols : List ℕ) (g : Progress) (vs ms rows : List ℕ) → Ready text areas g → Rounds ended f text areas symbols g vs ms rows g vs ms rows
-round-start ended f text areas symbols g vs ms rows w = record { rest = refl; ready = w; values-long = refl; masks-long = refl; rows-long = refl }
+pub round-start : (ended : Bool) (f : Form) (text areas symbols : List ℕ) (g : Progress) (vs ms rows : List ℕ) → Ready text areas g → Rounds ended f text areas symbols g vs ms rows g areas vs ms rows
+round-start ended f text areas symbols g vs ms rows w = record {
+  rest = refl;
+  ready = w;
+  values-long = refl;
+  masks-long = refl;
+  rows-long = refl;
+  areas-long = refl;
+  carried = carried-none (g .areas) areas ms;
+  as-many = refl;
+}
 
-module _ {ended : Bool} {f : Form} {text areas symbols : List ℕ} {g₀ : Progress} {vs₀ ms₀ rows₀ : List ℕ} {g : Progress} {vs ms rows : List ℕ}
-    (w : Rounds ended f text areas symbols g₀ vs₀ ms₀ rows₀ g vs ms rows) where
-  pub round-ready : Ready text areas g
-  round-ready = w .ready
+module _ {ended : Bool} {f : Form} {text areas symbols : List ℕ} {g₀ : Progress} {vs₀ ms₀ rows₀ : List ℕ} {g : Progress} {now vs ms rows : List ℕ}
+    (w : Rounds ended f text areas symbols g₀ vs₀ ms₀ rows₀ g now vs ms rows) where
+  pub round-ready : Ready text now g
+  round-ready = ready-same areas now (λ k. sym (w .carried .same k)) (w .ready)
 
   pub round-room : 9216 ≤ length rows₀ → 9216 ≤ length rows
   round-room h = omega (arith, w .rows-long)
 
-  module _ {u : Turn} {vs′ ms′ rows′ : List ℕ} (v : TurnIs ended f text areas symbols (g .next) (onwardAt ended f text areas symbols g vs ms rows) u vs′ ms′ rows′) where
-    pub round-done : {two : Paired} → u ≡ Done two → {r : Paired} → r ≡ twoOf u → GroupedTwo (onwardAt ended f text areas symbols g₀ vs₀ ms₀ rows₀) r vs′ ms′ rows′
+  module _ {u : Turn} {vs′ ms′ rows′ : List ℕ} (v : TurnIs ended f text now symbols (g .next) (onwardAt ended f text now symbols g vs ms rows) u vs′ ms′ rows′)
+      {now′ : List ℕ} (c : CarriedBy (g .areas) now ms u now′ ms′) where
+    turn : TurnIs ended f text areas symbols (g .next) (onwardAt ended f text areas symbols g vs ms rows) u vs′ ms′ rows′
+    turn = turn-same now areas (w .carried .same) g vs ms rows v
+
+    carried-on : Carried (g₀ .areas) areas ms₀ now′ ms′
+    carried-on = carried-then (w .carried) (rw (w .as-many) at (c .carried))
+
+    pub round-done : {two : Paired} → u ≡ Done two → {r : Paired} → r ≡ twoOf u → (GroupedTwo (onwardAt ended f text areas symbols g₀ vs₀ ms₀ rows₀) r vs′ ms′ rows′) × (Carried (g₀ .areas) areas ms₀ now′ ms′)
     round-done {two} e i =
-        let k : GroupedTwo (onwardAt ended f text areas symbols g vs ms rows) two vs′ ms′ rows′ = rw e at (v .says) in
-        rw (i, e) (record { says = k .says ∙ sym (w .rest); few = k .few })
+        let k : GroupedTwo (onwardAt ended f text areas symbols g vs ms rows) two vs′ ms′ rows′ = rw e at (turn .says) in
+        (rw (i, e) (record { says = k .says ∙ sym (w .rest); few = k .few }), carried-on)
 
     module _ {g′ : Progress} (e : u ≡ Goes g′) where
       on : GoesOn ended f text areas symbols (g .next) (onwardAt ended f text areas symbols g vs ms rows) g′ vs′ ms′ rows′
-      on = rw e at (v .says)
+      on = rw e at (turn .says)
 
       pub round-less : length text - g′ .next < length text - g .next
       round-less = omega (arith, on .less, on .ready .inside)
 
-      pub round-again : length vs′ ≡ length vs → length ms′ ≡ length ms → length rows′ ≡ length rows → Rounds ended f text areas symbols g₀ vs₀ ms₀ rows₀ g′ vs′ ms′ rows′
-      round-again a b c = record { rest = w .rest ∙ on .rest; ready = on .ready; values-long = a ∙ w .values-long; masks-long = b ∙ w .masks-long; rows-long = c ∙ w .rows-long }
+      pub round-again : length vs′ ≡ length vs → length ms′ ≡ length ms → length rows′ ≡ length rows → length now′ ≡ length now → Rounds ended f text areas symbols g₀ vs₀ ms₀ rows₀ g′ now′ vs′ ms′ rows′
+      round-again a b d l = record {
+        rest = w .rest ∙ on .rest;
+        ready = on .ready;
+        values-long = a ∙ w .values-long;
+        masks-long = b ∙ w .masks-long;
+        rows-long = d ∙ w .rows-long;
+        areas-long = l ∙ w .areas-long;
+        carried = carried-on;
+        as-many = (rw e at (c .as-many)) ∙ w .as-many;
+      }
 
 pub ruleset rounds = (needs, round-start, round-ready, round-room, round-done, round-less, round-again)

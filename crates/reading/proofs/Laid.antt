@@ -15,9 +15,11 @@ use Rattle.format.specs.Header.{Form}
 use Rattle.format.specs.Pairs as the
 use Rattle.format.specs.Outcome.{Outcome, fine, refused, andThen, fold}
 use Rattle.format.specs.Records.{Taken, lastOf, ends, stop}
-use Rattle.format.specs.Tables.{Tables, keptCount, total, fits, counted, room, tables}
+use Rattle.format.specs.Tables.{Area, Tables, keptCount, total, fits, counted, room, tables}
 use Rattle.format.specs.Placing.{State, placePair, placing}
-use Rattle.format.specs.Rows.{areaNumbers, symbolNumbers}
+use Rattle.format.specs.Rows.{areaNumbers, areaTable, symbolNumbers}
+use Rattle.laws.proofs.Known.{nothing-known, table-length}
+use Rattle.place.specs.Kept as known
 use Rattle.format.specs.Reading as paper
 use Rattle.format.specs.Held.{Held}
 use Rattle.laws.specs.Places.{recordsAt, pairsAt}
@@ -32,7 +34,8 @@ use Rattle.reading.specs.Answer.{toldCounts, held}
 use Rattle.way_in.specs.WayIn.{Rooms}
 use Rattle.tables.specs.GroupOne.{Hold, Read, Refuses, Grouped}
 use Rattle.planning.specs.Plan.{endingOf, goingAt, startingOf}
-use Rattle.reading.specs.Onward.{Ended, endsOf, onward, onwardAt, toldTwo, GroupedTwo, Ready}
+use Rattle.reading.specs.Onward.{Ended, endsOf, onward, onwardAt, toldTwo, GroupedTwo, Carried, Ready}
+use Rattle.reading.proofs.Carrying.{carried-none}
 use Rattle.reading.specs.Laid.{Begun, Blank, pairsFrom, onwardFrom, SecondIs, Whole, wholeOf, wholeAt, wholeLines, verdictAt, Laid, countsFrom, AcceptedIs, HeaderOnly, answerTwo, RestIs}
 use Rattle.reading.specs.declared.Answer as code
 use Rattle.reading.specs.declared.Answer.the-variants.{Refusal, Accepted}
@@ -49,7 +52,7 @@ use Rattle.planning.specs.declared.state.Paired.the-variants.{All, Rejected}
 use Rattle.steps.proofs.Stored.{laid}
 use Rattle.tables.specs.Sizes.{SizesAre, few}
 use Rattle.tables.proofs.KeptSizes.{sizes-all}
-use Rattle.tables.proofs.Growth.{flat-length, six-numbers, five-numbers}
+use Rattle.tables.proofs.Growth.{flat-length, seven-numbers, five-numbers}
 use Rattle.reading.proofs.GroupTwo.{onward-end, few-end}
 use Rattle.tables.proofs.TableRows.{areas-held, tables-held}
 
@@ -100,8 +103,8 @@ zeros-taken zero m h = refl
 zeros-taken (suc n) zero h = absurd (omega arith)
 zeros-taken (suc n) (suc m) h = ap (λ (l : List ℕ). 0 ∷ l) (zeros-taken n m (omega arith))
 
-pub zeros-384 : length {A = ℕ} (replicate 384 0) ≡ 384
-zeros-384 = length-replicate {A = ℕ} 384 0
+pub zeros-448 : length {A = ℕ} (replicate 448 0) ≡ 448
+zeros-448 = length-replicate {A = ℕ} 448 0
 
 pub zeros-5120 : length {A = ℕ} (replicate 5120 0) ≡ 5120
 zeros-5120 = length-replicate {A = ℕ} 5120 0
@@ -224,21 +227,48 @@ pub ruleset sizing = (needs, blank-small, blank-large, begun)
 
 -- ------------------------------------------------------------------ `over_images`
 
-module _ {ended : Bool} {f : Form} {text : List ℕ} (d : Found) {xs ys : List ℕ} {s : Sizes} (u : Begun text xs d s) {g : Progress} (e : g ≡ startingOf d (s .total)) {two : Paired} {vs₀ ms₀ rows₀ vs ms rows : List ℕ}
-    (bv : Blank (startingOf d (s .total) .positions) vs₀) (bm : Blank (startingOf d (s .total) .positions) ms₀) (v : SecondIs ended f text xs ys g vs₀ ms₀ rows₀ two vs ms rows) where
-  same-tables : {t : Tables} {xs₀ ys₀ : List ℕ} → length xs₀ ≡ 384 → length ys₀ ≡ 5120 → Hold t xs₀ ys₀ xs ys (d .areas) (d .symbols) → tablesIn xs (d .areas) ys (d .symbols) ≡ t
+module _ {ended : Bool} {f : Form} {text : List ℕ} (d : Found) {xs ys : List ℕ} {s : Sizes} (u : Begun text xs d s) {g : Progress} (e : g ≡ startingOf d (s .total)) {two : Paired} {vs₀ ms₀ rows₀ xs′ vs ms rows : List ℕ}
+    (bv : Blank (startingOf d (s .total) .positions) vs₀) (bm : Blank (startingOf d (s .total) .positions) ms₀) (v : SecondIs ended f text xs ys g vs₀ ms₀ rows₀ two xs′ vs ms rows) where
+  -- group two begins with the areas that were found
+  started : g .areas ≡ d .areas
+  started = ap (λ (x : Progress). x .areas) e ∙ go (ltb 65536 (s .total))
+    where
+      go : (b : Bool) → pick b (goingAt d 0 (d .more) (Kept 9 0)) (goingAt d (s .total) (d .more) (Made 0)) .areas ≡ d .areas
+      go true = refl
+      go false = refl
+
+  same-tables : {t : Tables} {xs₀ ys₀ : List ℕ} → length xs₀ ≡ 448 → length ys₀ ≡ 5120 → Hold t xs₀ ys₀ xs ys (d .areas) (d .symbols) → tablesIn xs (d .areas) ys (d .symbols) ≡ t
   same-tables lx ly h = tables-held h (omega (arith, u .areas-low)) (omega (arith, u .symbols-low))
 
-  same-total : {t : Tables} {xs₀ ys₀ : List ℕ} → length xs₀ ≡ 384 → length ys₀ ≡ 5120 → Hold t xs₀ ys₀ xs ys (d .areas) (d .symbols) → s .total ≡ total (t .areas)
+  same-total : {t : Tables} {xs₀ ys₀ : List ℕ} → length xs₀ ≡ 448 → length ys₀ ≡ 5120 → Hold t xs₀ ys₀ xs ys (d .areas) (d .symbols) → s .total ≡ total (t .areas)
   same-total lx ly h = u .sizes .total-is ∙ ap total (areas-held h (omega (arith, u .areas-low)) (omega (arith, u .symbols-low)))
 
-  comes-to : {t : Tables} {xs₀ ys₀ : List ℕ} → length xs₀ ≡ 384 → length ys₀ ≡ 5120 → Hold t xs₀ ys₀ xs ys (d .areas) (d .symbols)
+  comes-to : {t : Tables} {xs₀ ys₀ : List ℕ} → length xs₀ ≡ 448 → length ys₀ ≡ 5120 → Hold t xs₀ ys₀ xs ys (d .areas) (d .symbols)
       → wholeAt f t (pairsFrom ended f text (d .next) (d .more)) (d .stop) ≡ andThen (toldTwo two (take (g .positions) vs) (take (g .positions) ms) rows) (λ x. fine (wholeFrom t (s .total) x))
   unfolding starts
   comes-to {t} lx ly h =
       fresh-whole ended f text d xs ys t (s .total) (same-tables lx ly h) (same-total lx ly h) rows₀ vs₀ ms₀ (ltb 65536 (s .total)) refl (bv .zeros) (bm .zeros)
       ∙ (ap (λ (x : Progress). andThen (onwardFrom ended f text xs ys x (take (x .positions) vs₀) (take (x .positions) ms₀) rows₀) (λ x. fine (wholeFrom t (s .total) x))) (sym e)
       ∙ ap (λ (o : Outcome Ended). andThen o (λ x. fine (wholeFrom t (s .total) x))) (sym (v .grouped .says)))
+
+  -- the rows of areas have the known bits of the masks, before group two and behind it
+  known-first : {t : Tables} {xs₀ ys₀ : List ℕ} → length xs₀ ≡ 448 → length ys₀ ≡ 5120 → Hold t xs₀ ys₀ xs ys (d .areas) (d .symbols) → known.Kept (g .areas) xs (take (g .positions) ms₀)
+  known-first {t} {xs₀} lx ly h =
+      let z : take (g .positions) ms₀ ≡ replicate (g .positions) 0 = rw e (bm .zeros) in
+      let n : g .areas ≡ d .areas = started in
+      let l = flat-length (areaNumbers 0) 7 seven-numbers (t .areas) in
+      let r : take (7 * d .areas) xs ≡ flat (areaNumbers 0) (t .areas) =
+      rw (h .areas, laid (flat (areaNumbers 0) (t .areas)) xs₀ (omega (arith, l, h .area-count, u .areas-low))) (take-at (flat (areaNumbers 0) (t .areas)) _ (7 * d .areas) (omega (arith, l, h .area-count))) in
+      record {
+        table = rw (n, z, areas-held h (omega (arith, u .areas-low)) (omega (arith, u .symbols-low))) (r ∙ sym (nothing-known (t .areas) (g .positions)));
+      }
+
+  known-rows : {t : Tables} {xs₀ ys₀ : List ℕ} → length xs₀ ≡ 448 → length ys₀ ≡ 5120 → Hold t xs₀ ys₀ xs ys (d .areas) (d .symbols) → take (7 * d .areas) xs′ ≡ areaTable (t .areas) (take (g .positions) ms)
+  known-rows {t} lx ly h =
+      let n : g .areas ≡ d .areas = started in
+      let k = v .carried .keeps (known-first lx ly h) .table in
+      let a : areasIn xs′ (d .areas) ≡ t .areas = v .carried .same (d .areas) ∙ areas-held h (omega (arith, u .areas-low)) (omega (arith, u .symbols-low)) in
+      (rw n at k) ∙ ap (λ (zs : List Area). areaTable zs (take (g .positions) ms)) a
 
   pub rest-refused : {n p : ℕ} → two ≡ Rejected n p → {r : code.Answer} → r ≡ answerTwo two → (old : Held) → RestIs ended f text d xs ys old r old
   unfolding over
@@ -270,12 +300,12 @@ module _ {ended : Bool} {f : Form} {text : List ℕ} (d : Found) {xs ys : List �
     pub rest-done : {c : Counts} → c ≡ countsFrom d s lines k → {areas symbols values masks fixups areas′ symbols′ values′ masks′ fixups′ : List ℕ}
         → Rooms (length areas) (length symbols) (length values) (length masks) (length fixups)
         → length rows ≡ length rows₀ → length rows₀ ≡ 9216
-        → TablesOut (d .areas) (d .symbols) xs ys areas symbols areas′ symbols′ → ImagesOut (s .total) k (s .kept) vs ms rows values masks fixups values′ masks′ fixups′ → {r : code.Answer} → AcceptedIs c (length text) stop r
+        → TablesOut (d .areas) (d .symbols) xs′ ys areas symbols areas′ symbols′ → ImagesOut (s .total) k (s .kept) vs ms rows values masks fixups values′ masks′ fixups′ → {r : code.Answer} → AcceptedIs c (length text) stop r
         → RestIs ended f text d xs ys (held areas symbols values masks fixups) r (held areas′ symbols′ values′ masks′ fixups′)
     unfolding wholeFrom paper.countsOf paper.fixupsOf areasFor stateOf fixupsIn tablesIn
     rest-done {c} i {areas} {symbols} {values} {masks} {fixups} {areas′} {symbols′} {values′} {masks′} {fixups′} rooms lr lz a m {r} b = record { laid = lay }
       where
-        lay : (t : Tables) (xs₀ ys₀ : List ℕ) → length xs₀ ≡ 384 → length ys₀ ≡ 5120 → Hold t xs₀ ys₀ xs ys (d .areas) (d .symbols)
+        lay : (t : Tables) (xs₀ ys₀ : List ℕ) → length xs₀ ≡ 448 → length ys₀ ≡ 5120 → Hold t xs₀ ys₀ xs ys (d .areas) (d .symbols)
             → Laid (length text) (wholeAt f t (pairsFrom ended f text (d .next) (d .more)) (d .stop)) (held areas symbols values masks fixups) r (held areas′ symbols′ values′ masks′ fixups′)
         lay t xs₀ ys₀ lx ly k₀ =
             let o : wholeAt f t (pairsFrom ended f text (d .next) (d .more)) (d .stop) ≡ fine (wholeFrom t (s .total) (record { lines = lines; stop = stop; state = stateOf (take (g .positions) vs) (take (g .positions) ms) rows k })) =
@@ -283,7 +313,8 @@ module _ {ended : Bool} {f : Form} {text : List ℕ} (d : Found) {xs ys : List �
             let kept : s .kept ≡ keptCount (t .areas) = u .sizes .kept-is ∙ ap keptCount (areas-held k₀ (omega (arith, u .areas-low)) (omega (arith, u .symbols-low))) in
             let counts : _≡_ {A = paper.Counts} (toldCounts (countsFrom d s lines k)) (record { areas = length (t .areas); symbols = length (t .symbols); lines = lines; kept = keptCount (t .areas); positions = s .total; fixups = length (from (fixupRow rows) 0 k) }) =
             λ j. record { areas = k₀ .area-count j; symbols = k₀ .symbol-count j; lines = lines; kept = kept j; positions = s .total; fixups = sym (rows-counted rows 0 k) j } in
-            let la = flat-length areaNumbers 6 six-numbers (t .areas) in
+            let la = table-length (t .areas) (take (g .positions) ms) in
+            let rows-now = known-rows lx ly k₀ in
             let ls = flat-length symbolNumbers 5 five-numbers (t .symbols) in
             let ta = areas-laid a (u .areas-low) in
             let ts = symbols-laid a (u .symbols-low) in
@@ -293,7 +324,7 @@ module _ {ended : Bool} {f : Form} {text : List ℕ} (d : Found) {xs ys : List �
             subst (λ (x : Outcome Whole). Laid (length text) x (held areas symbols values masks fixups) r (held areas′ symbols′ values′ masks′ fixups′)) (sym o)
             (record {
               says = b .accepts ∙ ap (λ (x : paper.Counts). paper.accepted x (verdictAt (length text) stop)) (ap toldCounts i ∙ counts);
-              areas = copied (flat areaNumbers (t .areas)) xs₀ xs areas areas′ (6 * d .areas) (k₀ .areas) (omega (arith, la, k₀ .area-count)) (omega (arith, la, k₀ .area-count, u .areas-low)) (omega (arith, la, k₀ .area-count, u .areas-low, rooms .for-areas)) ta;
+              areas = ta ∙ rw rows-now (over-is (areaTable (t .areas) (take (g .positions) ms)) areas (omega (arith, la, k₀ .area-count, u .areas-low, rooms .for-areas)));
               symbols = copied (flat symbolNumbers (t .symbols)) ys₀ ys symbols symbols′ (5 * d .symbols) (k₀ .symbols) (omega (arith, ls, k₀ .symbol-count)) (omega (arith, ls, k₀ .symbol-count, u .symbols-low)) (omega (arith, ls, k₀ .symbol-count, u .symbols-low, rooms .for-symbols)) ts;
               values = pictured vs values values′ (s .total) (omega (arith, long .1, rooms .for-values)) iv ∙ ap (λ (n : ℕ). over (take n vs) values) (sym (long .0));
               masks = pictured ms masks masks′ (s .total) (omega (arith, long .1, rooms .for-masks)) im ∙ ap (λ (n : ℕ). over (take n ms) masks) (sym (long .0));
@@ -352,36 +383,36 @@ module _ (ended : Bool) (f : Form) (text : List ℕ) (at head : ℕ) (xs₀ ys�
         wholeIn : Tables → List (Taken the.Pair) → ℕ → Outcome Whole
         wholeIn t ps e = andThen (counted ps) (λ n. andThen (room t) (λ z. andThen (placing f t ps) (λ s. fine (record { built = record { tables = t; lines = n; size = z; state = s }; stop = e }))))
 
-    pub lines-rest : length xs₀ ≡ 384 → length ys₀ ≡ 5120 → {old new : Held} {r : code.Answer} → RestIs ended f text d xs ys old r new → Laid (length text) (wholeLines ended f text at head) old r new
+    pub lines-rest : length xs₀ ≡ 448 → length ys₀ ≡ 5120 → {old new : Held} {r : code.Answer} → RestIs ended f text d xs ys old r new → Laid (length text) (wholeLines ended f text at head) old r new
     lines-rest lx ly {old} {new} {r} v = subst (λ (x : Outcome Whole). Laid (length text) x old r new) (sym lines-are) (v .laid (found .sofar) xs₀ ys₀ lx ly (found .held))
 
-pub ruleset lines = (needs, zeros-384, zeros-5120, lines-refused, lines-long, lines-next, lines-areas, lines-symbols, lines-rest)
+pub ruleset lines = (needs, zeros-448, zeros-5120, lines-refused, lines-long, lines-next, lines-areas, lines-symbols, lines-rest)
 
 -- ------------------------------------------------------------------ `second`
 
 module _ (ended : Bool) (f : Form) {text areas : List ℕ} (symbols : List ℕ) {g : Progress} (r : Ready text areas g) where
   pub second-none : not (g .on) ≡ true → {two : Paired} → two ≡ endingOf g → (vs ms rows : List ℕ)
-      → SecondIs ended f text areas symbols g vs ms rows two vs ms rows
+      → SecondIs ended f text areas symbols g vs ms rows two areas vs ms rows
   unfolding onwardFrom
   second-none h e vs ms rows =
       let T = tablesIn areas (g .areas) symbols (g .symbols) in
       let b : onward f T (pairsFrom ended f text (g .next) (g .on)) g (take (g .positions) vs) (take (g .positions) ms) rows ≡ onward f T [] g (take (g .positions) vs) (take (g .positions) ms) rows =
       ap (λ (c : Bool). onward f T (pairsFrom ended f text (g .next) c) g (take (g .positions) vs) (take (g .positions) ms) rows) (was-no (g .on) h) in
-      rw e (record { grouped = record { says = sym (b ∙ onward-end f T g (take (g .positions) vs) (take (g .positions) ms) rows); few = few-end areas (g .areas) (g .standing) (g .lines) (g .stop) (r .sound) } })
+      rw e (record { grouped = record { says = sym (b ∙ onward-end f T g (take (g .positions) vs) (take (g .positions) ms) rows); few = few-end areas (g .areas) (g .standing) (g .lines) (g .stop) (r .sound) }; carried = carried-none (g .areas) areas (take (g .positions) ms) })
 
   -- over the first positions of two images, which come back with what stands behind them
-  pub second-some : not (g .on) ≡ false → (vs ms : List ℕ) → g .positions ≤ length vs → g .positions ≤ length ms → {rows vs′ ms′ rows′ : List ℕ} {two : Paired}
-      → GroupedTwo (onwardAt ended f text areas symbols g (take (g .positions) vs) (take (g .positions) ms) rows) two vs′ ms′ rows′
+  pub second-some : not (g .on) ≡ false → (vs ms : List ℕ) → g .positions ≤ length vs → g .positions ≤ length ms → {rows areas′ vs′ ms′ rows′ : List ℕ} {two : Paired}
+      → GroupedTwo (onwardAt ended f text areas symbols g (take (g .positions) vs) (take (g .positions) ms) rows) two vs′ ms′ rows′ → Carried (g .areas) areas (take (g .positions) ms) areas′ ms′
       → length vs′ ≡ length (take (g .positions) vs) → length ms′ ≡ length (take (g .positions) ms)
-      → SecondIs ended f text areas symbols g vs ms rows two (vs′ ++ drop (g .positions) vs) (ms′ ++ drop (g .positions) ms) rows′
+      → SecondIs ended f text areas symbols g vs ms rows two areas′ (vs′ ++ drop (g .positions) vs) (ms′ ++ drop (g .positions) ms) rows′
   unfolding onwardFrom onwardAt
-  second-some h vs ms lv lm {rows} {vs′} {ms′} {rows′} {two} w i j =
+  second-some h vs ms lv lm {rows} {areas′} {vs′} {ms′} {rows′} {two} w k i j =
       let n = g .positions in
       let T = tablesIn areas (g .areas) symbols (g .symbols) in
       let a : take n (vs′ ++ drop n vs) ≡ vs′ = take-at vs′ (drop n vs) n (i ∙ length-take-le n vs lv) in
       let c : take n (ms′ ++ drop n ms) ≡ ms′ = take-at ms′ (drop n ms) n (j ∙ length-take-le n ms lm) in
       let o : onward f T (pairsFrom ended f text (g .next) (g .on)) g (take n vs) (take n ms) rows ≡ onward f T (pairsAt ended f text (g .next)) g (take n vs) (take n ms) rows =
       ap (λ (y : Bool). onward f T (pairsFrom ended f text (g .next) y) g (take n vs) (take n ms) rows) (was-yes (g .on) h) in
-      record { grouped = rw (a, c) (record { says = w .says ∙ sym o; few = w .few }) }
+      record { grouped = rw (a, c) (record { says = w .says ∙ sym o; few = w .few }); carried = rw c k }
 
 pub ruleset seconds = (needs, second-none)

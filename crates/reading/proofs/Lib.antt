@@ -1,3 +1,4 @@
+pub mod Carrying
 pub mod GroupTwo
 pub mod Laid
 pub mod Opening

@@ -17,6 +17,7 @@ use Rattle.format.specs.Records.{Parsed, parsed, parsedFrom, parsedAt, records,
 use Rattle.format.specs.Tables.{tables, counted, total, keptCount, room}
 use Rattle.format.specs.Fixups.{byArea}
 use Rattle.format.specs.Placing.{placing}
+use Rattle.format.specs.Rows.{areaTable}
 use Rattle.format.specs.Reading as paper
 use Rattle.format.specs.Held.{Held, lengths, Meets}
 use Rattle.laws.specs.Places.{recordsAt}
@@ -50,7 +51,7 @@ module _ (ended : Bool) (s : List ℕ) {h : Head} (e : toldHead h ≡ header s) 
 
     -- a header and no line end
     only : (b : Bool) {r : Answer} → HeaderOnly b (length s) n r → (old : Held) → Laid (length s) (andThen (andThen (parsedAt b (formOf f) n 0 s) paper.readOf) (λ r. fine (wholeOf r))) old r old
-    unfolding parsedAt paper.readOf paper.build paper.countsOf paper.fixupsOf tables counted fold room total keptCount placing byArea stop ends flat over
+    unfolding parsedAt paper.readOf paper.build paper.countsOf paper.fixupsOf tables counted fold room total keptCount placing byArea stop ends flat areaTable over
     only true w old = record { says = w .header-is; areas = refl; symbols = refl; values = refl; masks = refl; fixups = refl }
     only false w old = record { says = w .header-is; areas = refl; symbols = refl; values = refl; masks = refl; fixups = refl }
 

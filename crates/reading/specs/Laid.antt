@@ -14,7 +14,7 @@ use Rattle.format.specs.Pairs as the
 use Rattle.format.specs.Records.{Taken, lastOf, Verdict, finished, stopped, parsed, stop}
 use Rattle.format.specs.Tables.{Tables, total, keptCount, counted, room}
 use Rattle.format.specs.Placing.{placing}
-use Rattle.format.specs.Rows.{areaNumbers, symbolNumbers, fixupNumbers}
+use Rattle.format.specs.Rows.{areaTable, symbolNumbers, fixupNumbers}
 use Rattle.format.specs.Reading as paper
 use Rattle.format.specs.Held.{Held}
 use Rattle.laws.specs.Places.{pairsAt, recordsAt}
@@ -25,7 +25,7 @@ use Rattle.reading.specs.Answer.{told, toldCounts}
 use Rattle.tables.specs.GroupOne.{Hold}
 use Rattle.tables.specs.Sizes.{SizesAre}
 use Rattle.planning.specs.Plan.{startingOf}
-use Rattle.reading.specs.Onward.{Ended, GroupedTwo, endsOf, onward}
+use Rattle.reading.specs.Onward.{Ended, GroupedTwo, Carried, endsOf, onward}
 use Rattle.reading.specs.declared.Answer as code
 use Rattle.reading.specs.declared.Answer.the-variants.{Refusal}
 use Rattle.reading.specs.declared.Counts.{Counts}
@@ -59,8 +59,9 @@ onwardFrom ended f text areas symbols g vs ms rows =
     onward f (tablesIn areas (g .areas) symbols (g .symbols)) (pairsFrom ended f text (g .next) (g .on)) g vs ms rows
 
 -- group two over the first positions of two images
-pub record SecondIs (ended : Bool) (f : Form) (text areas symbols : List ℕ) (g : Progress) (vs ms rows : List ℕ) (r : Paired) (vs′ ms′ rows′ : List ℕ) : Type 0 where
+pub record SecondIs (ended : Bool) (f : Form) (text areas symbols : List ℕ) (g : Progress) (vs ms rows : List ℕ) (r : Paired) (areas′ vs′ ms′ rows′ : List ℕ) : Type 0 where
   pub grouped : GroupedTwo (onwardFrom ended f text areas symbols g (take (g .positions) vs) (take (g .positions) ms) rows) r (take (g .positions) vs′) (take (g .positions) ms′) rows′
+  pub carried : Carried (g .areas) areas (take (g .positions) ms) areas′ (take (g .positions) ms′)
 
 -- what the records give, and where they end
 pub record Whole : Type 0 where
@@ -94,7 +95,7 @@ abbrev pub layOf : ℕ → Outcome Whole → paper.Reading
 layOf n (refused x p) = record { answer = paper.refusal x p; areas = []; symbols = []; values = []; masks = []; fixups = [] }
 layOf n (fine w) = record {
   answer = paper.accepted (paper.countsOf (w .built)) (verdictAt n (w .stop));
-  areas = flat areaNumbers (w .built .tables .areas);
+  areas = areaTable (w .built .tables .areas) (w .built .state .masks);
   symbols = flat symbolNumbers (w .built .tables .symbols);
   values = w .built .state .values;
   masks = w .built .state .masks;
@@ -129,5 +130,5 @@ answerTwo (All n e k) = Refusal 0 0
 
 -- group two and what is laid out, for the tables that the rows hold
 pub record RestIs (ended : Bool) (f : Form) (text : List ℕ) (d : Found) (xs ys : List ℕ) (old : Held) (r : code.Answer) (new : Held) : Type 0 where
-  pub laid : (t : Tables) (xs₀ ys₀ : List ℕ) → length xs₀ ≡ 384 → length ys₀ ≡ 5120 → Hold t xs₀ ys₀ xs ys (d .areas) (d .symbols)
+  pub laid : (t : Tables) (xs₀ ys₀ : List ℕ) → length xs₀ ≡ 448 → length ys₀ ≡ 5120 → Hold t xs₀ ys₀ xs ys (d .areas) (d .symbols)
       → Laid (length text) (wholeAt f t (pairsFrom ended f text (d .next) (d .more)) (d .stop)) old r new

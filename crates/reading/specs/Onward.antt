@@ -1,10 +1,10 @@
 -- Group two from a place on: its pairs counted and placed, as the definition has it.
 -- Assumes nothing.
-use Prim.Native.Nat.{ℕ, suc, _+_, _≤_, _<_}
+use Prim.Native.Nat.{ℕ, suc, _+_, _*_, _≤_, _<_}
 use mathlib.Core.Path.{_≡_}
 use mathlib.Core.Bool.{Bool}
 use mathlib.Core.List.{List, map}
-use lib.ListN.{length}
+use lib.ListN.{length, set}
 use lib.Dec.{ltb}
 use Rattle.format.specs.Lists.{pick}
 use Rattle.format.specs.Header.{Form}
@@ -19,6 +19,8 @@ use Rattle.mode.specs.Class.{classTable}
 use Rattle.header.specs.Told.{moreOf}
 use Rattle.header.specs.declared.Form as text
 use Rattle.homes.specs.Home.{homeAt}
+use Rattle.area_rows.specs.Known.{narrowed}
+use Rattle.place.specs.Kept.{Kept}
 use Rattle.place.specs.Pair.{pairOf}
 use Rattle.homes.specs.declared.Home.{Home}
 use Rattle.sites.specs.declared.Filled.{Filled}
@@ -29,7 +31,7 @@ use Rattle.steps.specs.declared.pair.Body.the-variants.{Skipped, Placed}
 use Rattle.steps.specs.declared.pair.PairStep.{PairStep}
 use Rattle.steps.specs.declared.pair.PairStep.the-variants.{Ends, Takes}
 use Rattle.planning.specs.declared.state.Standing.{Standing}
-use Rattle.planning.specs.declared.state.Standing.the-variants.{Made, Kept}
+use Rattle.planning.specs.declared.state.Standing.the-variants.{Made, Kept as Refused}
 use Rattle.planning.specs.declared.state.Progress.{Progress}
 use Rattle.planning.specs.declared.state.Paired.{Paired}
 use Rattle.planning.specs.declared.state.Paired.the-variants.{All, Rejected}
@@ -52,7 +54,7 @@ pub record Ended : Type 0 where
 -- the images and fixups so far, or the refusal that is kept
 abbrev pub stands : Standing → (vs ms rows : List ℕ) → Outcome State
 stands (Made k) vs ms rows = fine (stateOf vs ms rows k)
-stands (Kept n p) vs ms rows = refused n p
+stands (Refused n p) vs ms rows = refused n p
 
 -- the pairs from here on: counted, then placed
 unfoldable pub onward : Form → Tables → List (Taken the.Pair) → Progress → (vs ms rows : List ℕ) → Outcome Ended
@@ -78,17 +80,23 @@ pub record GroupedTwo (o : Outcome Ended) (r : Paired) (vs ms rows : List ℕ) :
   pub few : FewIn r
 
 abbrev pub standingOf : place.Placed → Standing
-standingOf (Through k) = Made k
-standingOf (Stopped n p) = Kept n p
-standingOf Misfit = Kept 0 0
+standingOf (Through k x) = Made k
+standingOf (Stopped n p) = Refused n p
+standingOf Misfit = Refused 0 0
 
-abbrev pub filledOf : Progress → ℕ → Filled
-filledOf g k = record { areas = g .areas; symbols = g .symbols; fixups = k }
+abbrev pub filledOf : Progress → (fixups known : ℕ) → Filled
+filledOf g k x = record { areas = g .areas; symbols = g .symbols; fixups = k; known = x }
+
+-- the rows of areas with the known bits that a pair leaves; a refusal leaves them
+abbrev pub keptIn : (areas : List ℕ) (i : ℕ) → place.Placed → List ℕ
+keptIn areas i (Through k x) = set areas (7 * i + 6) (narrowed x)
+keptIn areas i (Stopped n p) = areas
+keptIn areas i Misfit = areas
 
 -- where placing has not been refused, the rows have room and the images are not too large
 abbrev pub Sound : (areas : List ℕ) (na : ℕ) → Standing → Type 0
 Sound areas na (Made k) = (k ≤ 1024) × (total (areasIn areas na) ≤ 65536)
-Sound areas na (Kept n p) = Unit {0}
+Sound areas na (Refused n p) = Unit {0}
 
 pub record Ready (text areas : List ℕ) (g : Progress) : Type 0 where
   pub inside : g .next ≤ length text
@@ -123,9 +131,24 @@ pub record Advances (l : Line) (g : Progress) (bytes ms es xs areas symbols vs f
   pub standing : Standing
   pub home : Home
   pub answered : r ≡ afterOf (standingIn g home standing)
-  pub says : (radix end : ℕ) → stands standing vs′ fs′ rows′ ≡ andThen (stands (g .standing) vs fs rows) (λ s. pairOf l bytes ms es xs areas symbols (filledOf g 0) s radix end)
+  pub says : (radix end : ℕ) → stands standing vs′ fs′ rows′ ≡ andThen (stands (g .standing) vs fs rows) (λ s. pairOf l bytes ms es xs areas symbols (filledOf g 0 0) s radix end)
   pub sound : Sound areas (g .areas) standing
   pub homed : home ≡ homeAt areas (g .areas) (home .area)
+
+-- the rows of areas are the same but for the known bits, and have those of the masks if they had them before
+pub record Carried (n : ℕ) (areas ms areas′ ms′ : List ℕ) : Type 0 where
+  pub same : (k : ℕ) → areasIn areas′ k ≡ areasIn areas k
+  pub keeps : Kept n areas ms → Kept n areas′ ms′
+
+-- how many areas there are after a turn
+abbrev pub listed : ℕ → Turn → ℕ
+listed n (Goes g) = g .areas
+listed n (Done two) = n
+
+-- a turn with n areas
+pub record CarriedBy (n : ℕ) (areas ms : List ℕ) (r : Turn) (areas′ ms′ : List ℕ) : Type 0 where
+  pub carried : Carried n areas ms areas′ ms′
+  pub as-many : listed n r ≡ n
 
 -- what a turn leaves to do
 pub record GoesOn (ended : Bool) (f : Form) (text areas symbols : List ℕ) (p : ℕ) (o : Outcome Ended) (g : Progress) (vs ms rows : List ℕ) : Type 0 where

@@ -4,7 +4,7 @@ ghost use Prim.Native.Nat.{_≤_};
 ghost use lib.ListN.{length};
 ghost use Rattle.mode.specs.Class.{classTable};
 ghost use Rattle.header.specs.Told.{formOf};
-ghost use Rattle.reading.specs.Onward.{Ready, Columns, GroupedTwo, onwardAt};
+ghost use Rattle.reading.specs.Onward.{Ready, Columns, GroupedTwo, Carried, onwardAt};
 use crate::turn::take_turn;
 use header::Form;
 use planning::Paired;
@@ -19,7 +19,7 @@ fn rounds(
     form: Form,
     ended: bool,
     table: &[u8; 2048],
-    a: &[u32],
+    a: &mut [u32],
     s: &[u32],
     bs: &mut [u8; 256],
     ms: &mut [u32; 64],
@@ -30,7 +30,7 @@ fn rounds(
     rows: &mut [u32],
 ) -> Paired
     requires { ⌜ (Ready (now t) (now a) start) × (length (now t) ≤ 65536) × (now table ≡ classTable) × (9216 ≤ length (now rows)) × (Columns (now bs) (now ms) (now es) (now xs)) ⌝ }
-    ensures { λ r. ⌜ GroupedTwo (onwardAt ended (formOf form) (now (t .entry)) (now (a .entry)) (now (s .entry)) start (now (vs .entry)) (now (fs .entry)) (now (rows .entry))) r (now (vs .exit)) (now (fs .exit)) (now (rows .exit)) ⌝ }
+    ensures { λ r. ⌜ (GroupedTwo (onwardAt ended (formOf form) (now (t .entry)) (now (a .entry)) (now (s .entry)) start (now (vs .entry)) (now (fs .entry)) (now (rows .entry))) r (now (vs .exit)) (now (fs .exit)) (now (rows .exit))) × (Carried (start .areas) (now (a .entry)) (now (fs .entry)) (now (a .exit)) (now (fs .exit))) ⌝ }
 {
     let mut g = start;
     loop {
@@ -49,14 +49,14 @@ pub(crate) fn group_two(
     form: Form,
     ended: bool,
     table: &[u8; 2048],
-    areas: &[u32],
+    areas: &mut [u32],
     symbols: &[u32],
     values: &mut [u8],
     masks: &mut [u8],
     rows: &mut [u32],
 ) -> Paired
     requires { ⌜ (Ready (now t) (now areas) start) × (length (now t) ≤ 65536) × (now table ≡ classTable) × (9216 ≤ length (now rows)) ⌝ }
-    ensures { λ r. ⌜ GroupedTwo (onwardAt ended (formOf form) (now (t .entry)) (now (areas .entry)) (now (symbols .entry)) start (now (values .entry)) (now (masks .entry)) (now (rows .entry))) r (now (values .exit)) (now (masks .exit)) (now (rows .exit)) ⌝ }
+    ensures { λ r. ⌜ (GroupedTwo (onwardAt ended (formOf form) (now (t .entry)) (now (areas .entry)) (now (symbols .entry)) start (now (values .entry)) (now (masks .entry)) (now (rows .entry))) r (now (values .exit)) (now (masks .exit)) (now (rows .exit))) × (Carried (start .areas) (now (areas .entry)) (now (masks .entry)) (now (areas .exit)) (now (masks .exit))) ⌝ }
 {
     let mut bs = [0u8; 256];
     let mut ms = [0u32; 64];

@@ -4,9 +4,9 @@ ghost use Rattle.format.specs.Held.{Meets};
 ghost use Rattle.reading.specs.Answer.{held, told};
 
 mod answers;
-mod both;
 mod group_two;
-mod images;
+mod lines;
+mod rest;
 mod second;
 mod turn;
 mod whole;

@@ -17,14 +17,14 @@ fn second(
     g: Progress,
     form: Form,
     ended: bool,
-    areas: &[u32],
+    areas: &mut [u32],
     symbols: &[u32],
     values: &mut [u8],
     masks: &mut [u8],
     rows: &mut [u32],
 ) -> Paired
     requires { ⌜ (Ready (now t) (now areas) g) × (length (now t) ≤ 65536) × (9216 ≤ length (now rows)) × (g .positions ≤ length (now values)) × (g .positions ≤ length (now masks)) ⌝ }
-    ensures { λ r. ⌜ SecondIs ended (formOf form) (now (t .entry)) (now (areas .entry)) (now (symbols .entry)) g (now (values .entry)) (now (masks .entry)) (now (rows .entry)) r (now (values .exit)) (now (masks .exit)) (now (rows .exit)) ⌝ }
+    ensures { λ r. ⌜ SecondIs ended (formOf form) (now (t .entry)) (now (areas .entry)) (now (symbols .entry)) g (now (values .entry)) (now (masks .entry)) (now (rows .entry)) r (now (areas .exit)) (now (values .exit)) (now (masks .exit)) (now (rows .exit)) ⌝ }
 {
     if !g.on {
         return ending(g);
@@ -51,14 +51,14 @@ pub(crate) fn second_over(
     g: Progress,
     form: Form,
     ended: bool,
-    areas: &[u32; 384],
+    areas: &mut [u32; 448],
     symbols: &[u32; 5120],
     values: &mut [u8],
     masks: &mut [u8],
     rows: &mut [u32; 9216],
 ) -> Paired
     requires { ⌜ (Ready (now t) (now areas) g) × (length (now t) ≤ 65536) × (9216 ≤ length (now rows)) × (g .positions ≤ length (now values)) × (g .positions ≤ length (now masks)) ⌝ }
-    ensures { λ r. ⌜ SecondIs ended (formOf form) (now (t .entry)) (now (areas .entry)) (now (symbols .entry)) g (now (values .entry)) (now (masks .entry)) (now (rows .entry)) r (now (values .exit)) (now (masks .exit)) (now (rows .exit)) ⌝ }
+    ensures { λ r. ⌜ SecondIs ended (formOf form) (now (t .entry)) (now (areas .entry)) (now (symbols .entry)) g (now (values .entry)) (now (masks .entry)) (now (rows .entry)) r (now (areas .exit)) (now (values .exit)) (now (masks .exit)) (now (rows .exit)) ⌝ }
     ensures { λ r. ⌜ length (now (rows .exit)) ≡ length (now (rows .entry)) ⌝ }
 {
     second(t, g, form, ended, areas, symbols, values, masks, rows)

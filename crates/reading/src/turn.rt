@@ -5,7 +5,9 @@ ghost use lib.ListN.{length};
 ghost use Rattle.mode.specs.Class.{classTable};
 ghost use Rattle.homes.specs.Home.{homeAt};
 ghost use Rattle.header.specs.Told.{formOf};
-ghost use Rattle.reading.specs.Onward.{standingOf, filledOf, Ready, PlaceReady, Columns, Advances, TurnIs, onwardAt};
+ghost use Rattle.reading.specs.Onward.{standingOf, filledOf, keptIn, Ready, PlaceReady, Columns, Advances, TurnIs, CarriedBy, onwardAt};
+use area_rows::known_bits;
+use area_rows::put_known;
 use header::Form;
 use homes::Home;
 use place::Placed;
@@ -26,7 +28,7 @@ fn standing_of(r: Placed) -> Standing
     ensures { λ s. ⌜ s ≡ standingOf r ⌝ }
 {
     match r {
-        Placed::Done(k) => Standing::Made { fixups: k },
+        Placed::Done(k, _) => Standing::Made { fixups: k },
         Placed::Stopped(n, p) => Standing::Kept {
             number: n,
             place: p,
@@ -38,14 +40,26 @@ fn standing_of(r: Placed) -> Standing
     }
 }
 
-// How many rows there are.
-fn filled_of(g: Progress, fixups: usize) -> Filled
-    ensures { λ r. ⌜ r ≡ filledOf g fixups ⌝ }
+// How many rows there are, and the known bits of a pair's area.
+fn filled_of(g: Progress, fixups: usize, known: u32) -> Filled
+    ensures { λ r. ⌜ r ≡ filledOf g fixups known ⌝ }
 {
     Filled {
         areas: g.areas,
         symbols: g.symbols,
         fixups: fixups,
+        known: known,
+    }
+}
+
+// The known bits of area i after a pair, in its row; they stay where the pair is refused.
+fn keep_known(areas: &mut [u32], i: usize, r: Placed)
+    ensures { λ _. ⌜ now (areas .exit) ≡ keptIn (now (areas .entry)) i r ⌝ }
+{
+    match r {
+        Placed::Done(_, known) => put_known(areas, i, known),
+        Placed::Stopped(_, _) => {}
+        Placed::Misfit => {}
     }
 }
 
@@ -70,20 +84,20 @@ fn place_body(
     ms: &[u32; 64],
     es: &[u32; 64],
     xs: &[u32; 64],
-    areas: &[u32],
+    areas: &mut [u32],
     symbols: &[u32],
     values: &mut [u8],
     masks: &mut [u8],
     rows: &mut [u32],
 ) -> Turn
     requires { ⌜ PlaceReady line going (now table) (now bytes) (now areas) (now rows) ⌝ }
-    ensures { λ r. ⌜ Advances line going (now (bytes .entry)) (now (ms .entry)) (now (es .entry)) (now (xs .entry)) (now (areas .entry)) (now (symbols .entry)) (now (values .entry)) (now (masks .entry)) (now (rows .entry)) r (now (values .exit)) (now (masks .exit)) (now (rows .exit)) ⌝ }
+    ensures { λ r. ⌜ (Advances line going (now (bytes .entry)) (now (ms .entry)) (now (es .entry)) (now (xs .entry)) (now (areas .entry)) (now (symbols .entry)) (now (values .entry)) (now (masks .entry)) (now (rows .entry)) r (now (values .exit)) (now (masks .exit)) (now (rows .exit))) × (CarriedBy (going .areas) (now (areas .entry)) (now (masks .entry)) r (now (areas .exit)) (now (masks .exit))) ⌝ }
 {
     let s = going.standing;
     let Standing::Made { fixups } = s else {
         return after(standing_in(going, going.home, s));
     };
-    let filled = filled_of(going, fixups);
+    let filled = filled_of(going, fixups, known_bits(areas, line.area));
     let home = home_for(areas, going, line.area);
     let r = place::place_pair(
         table,
@@ -100,6 +114,7 @@ fn place_body(
         masks,
         rows,
     );
+    keep_known(areas, line.area, r);
     after(standing_in(going, home, standing_of(r)))
 }
 
@@ -110,7 +125,7 @@ pub(crate) fn take_turn(
     form: Form,
     ended: bool,
     table: &[u8; 2048],
-    areas: &[u32],
+    areas: &mut [u32],
     symbols: &[u32],
     bs: &mut [u8; 256],
     ms: &mut [u32; 64],
@@ -121,7 +136,7 @@ pub(crate) fn take_turn(
     rows: &mut [u32],
 ) -> Turn
     requires { ⌜ (Ready (now t) (now areas) g) × (length (now t) ≤ 65536) × (now table ≡ classTable) × (9216 ≤ length (now rows)) × (Columns (now bs) (now ms) (now es) (now xs)) ⌝ }
-    ensures { λ r. ⌜ (TurnIs ended (formOf form) (now (t .entry)) (now (areas .entry)) (now (symbols .entry)) (g .next) (onwardAt ended (formOf form) (now (t .entry)) (now (areas .entry)) (now (symbols .entry)) g (now (values .entry)) (now (masks .entry)) (now (rows .entry))) r (now (values .exit)) (now (masks .exit)) (now (rows .exit))) × (Columns (now (bs .exit)) (now (ms .exit)) (now (es .exit)) (now (xs .exit))) ⌝ }
+    ensures { λ r. ⌜ (TurnIs ended (formOf form) (now (t .entry)) (now (areas .entry)) (now (symbols .entry)) (g .next) (onwardAt ended (formOf form) (now (t .entry)) (now (areas .entry)) (now (symbols .entry)) g (now (values .entry)) (now (masks .entry)) (now (rows .entry))) r (now (values .exit)) (now (masks .exit)) (now (rows .exit))) × (Columns (now (bs .exit)) (now (ms .exit)) (now (es .exit)) (now (xs .exit))) × (CarriedBy (g .areas) (now (areas .entry)) (now (masks .entry)) r (now (areas .exit)) (now (masks .exit))) ⌝ }
 {
     let step = pair_step(t, g.next, form, ended, bs, ms, es, xs);
     let plan = plan_of(step, g, form);

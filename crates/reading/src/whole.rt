@@ -8,7 +8,7 @@ ghost use Rattle.reading.specs.Laid.{Laid, wholeText, HeaderOnly};
 use crate::Answer;
 use crate::Counts;
 use crate::answers::accept;
-use crate::both::read_lines;
+use crate::lines::read_lines;
 use header::Head;
 use steps::record_end;
 use way_in::Gate;

@@ -23,7 +23,7 @@ struct Tally {
 fn read(
     ended: bool,
     text: &[u8],
-    areas: &mut [u32; 384],
+    areas: &mut [u32; 448],
     symbols: &mut [u32; 5120],
     values: &mut [u8; 65536],
     masks: &mut [u8; 65536],
@@ -40,7 +40,7 @@ fn read(
 fn same(
     answer: Answer,
     told: Told,
-    areas: &[u32; 384],
+    areas: &[u32; 448],
     symbols: &[u32; 5120],
     values: &[u8; 65536],
     masks: &[u8; 65536],
@@ -51,7 +51,7 @@ fn same(
         Answer::Accepted { counts, verdict } => {
             let place = sum::stop(verdict);
             let h = sum::verdict_and_counts(verdict, counts);
-            let h1 = sum::words(areas, sum::area_numbers(counts.areas), h);
+            let h1 = sum::area_words(areas, sum::area_numbers(counts.areas), h);
             let h2 = sum::words(symbols, sum::symbol_numbers(counts.symbols), h1);
             let h3 = sum::bytes(values, counts.positions, h2);
             let h4 = sum::bytes(masks, counts.positions, h3);
@@ -63,7 +63,7 @@ fn same(
 
 // Whether the answer to a text is the recorded one.
 fn holds(told: Told, ended: bool, text: &[u8]) -> bool {
-    let mut areas = [0u32; 384];
+    let mut areas = [0u32; 448];
     let mut symbols = [0u32; 5120];
     let mut values = [0u8; 65536];
     let mut masks = [0u8; 65536];

@@ -43,7 +43,7 @@ pub(crate) fn verdict_and_counts(verdict: Verdict, counts: Counts) -> u64 {
 
 // The numbers in the rows of so many areas; 0 for more than there can be.
 pub(crate) fn area_numbers(n: usize) -> usize {
-    if n <= 64 { n * 6 } else { 0 }
+    if n <= 64 { n * 7 } else { 0 }
 }
 
 // The numbers in the rows of so many symbols; 0 for more than there can be.
@@ -54,6 +54,22 @@ pub(crate) fn symbol_numbers(n: usize) -> usize {
 // The numbers in the rows of so many fixups; 0 for more than there can be.
 pub(crate) fn fixup_numbers(n: usize) -> usize {
     if n <= 1024 { n * 9 } else { 0 }
+}
+
+// The sum over the first n numbers of area rows, or all, but for the known bits: the Rust has none.
+pub(crate) fn area_words(rows: &[u32], n: usize, h: u64) -> u64 {
+    let mut s = h;
+    let mut i = 0;
+    while i < n {
+        if rows.len() <= i {
+            return s;
+        }
+        if i % 7 < 6 {
+            s = mix(s, wide_word(rows[i]));
+        }
+        i += 1;
+    }
+    s
 }
 
 // The sum over the first n numbers, or all.

@@ -28,11 +28,11 @@ pub ruleset parts = (needs, part-past, part-long, part-in)
 
 -- `area_cell`, `symbol_cell`, `fixup_cell`: past the end
 module _ (s : List ℕ) (i c : ℕ) where
-  pub six-past : length s / 6 < i → 0 ≡ getD s (6 * i + c) 0
-  six-past h = sym (List·getD-eq-default s 0 (omega arith))
+  pub seven-past : length s / 7 < i → 0 ≡ getD s (7 * i + c) 0
+  seven-past h = sym (List·getD-eq-default s 0 (omega arith))
 
-  pub six-short : length s - 6 * i ≤ c → 0 ≡ getD s (6 * i + c) 0
-  six-short h = sym (List·getD-eq-default s 0 (omega arith))
+  pub seven-short : length s - 7 * i ≤ c → 0 ≡ getD s (7 * i + c) 0
+  seven-short h = sym (List·getD-eq-default s 0 (omega arith))
 
   pub five-past : length s / 5 < i → 0 ≡ getD s (5 * i + c) 0
   five-past h = sym (List·getD-eq-default s 0 (omega arith))
@@ -46,4 +46,4 @@ module _ (s : List ℕ) (i c : ℕ) where
   pub nine-short : length s - 9 * i ≤ c → 0 ≡ getD s (9 * i + c) 0
   nine-short h = sym (List·getD-eq-default s 0 (omega arith))
 
-pub ruleset rows = (needs, six-past, six-short, five-past, five-short, nine-past, nine-short)
+pub ruleset rows = (needs, seven-past, seven-short, five-past, five-short, nine-past, nine-short)

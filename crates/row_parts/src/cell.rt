@@ -21,12 +21,12 @@ pub fn part<'a>(s: &'a [u8], start: usize, len: usize) -> &'a [u8]
 
 // A number of area i's row, or 0 past the end.
 pub fn area_cell(rows: &[u32], i: usize, c: usize) -> u32
-    ensures { λ r. ⌜ r ≡ getD (now (rows .entry)) (6 * i + c) 0 ⌝ }
+    ensures { λ r. ⌜ r ≡ getD (now (rows .entry)) (7 * i + c) 0 ⌝ }
 {
-    if rows.len() / 6 < i {
+    if rows.len() / 7 < i {
         return 0;
     }
-    let start = 6 * i;
+    let start = 7 * i;
     if rows.len() - start <= c {
         return 0;
     }

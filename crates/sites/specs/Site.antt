@@ -40,7 +40,7 @@ pub record Ready (s : Site) : Type 0 where
 
 -- a site whose fragments made n numbers
 abbrev pub madeAt : Site → ℕ → Site
-madeAt s n = record { line = s .line; filled = s .filled; home = s .home; start = s .start; size = s .size; made = n }
+madeAt s n = record { line = s .line; filled = s .filled; id = s .id; start = s .start; size = s .size; made = n }
 
 -- more than 64 areas count as none
 unfoldable pub few : ℕ → ℕ

@@ -15,18 +15,19 @@ pub struct Line {
     pub area: usize,
 }
 
-// How many rows there are of areas, of symbols and of fixups.
+// How far it is filled: the rows of areas, of symbols and of fixups that there are, and the known bits of the area of a pair.
 pub struct Filled {
     pub areas: usize,
     pub symbols: usize,
     pub fixups: usize,
+    pub known: u32,
 }
 
 // Where a pair goes: its line, the counts of rows, the id of its area, where the image starts, its size, and how many numbers its fragments made.
 pub struct Site {
     pub line: Line,
     pub filled: Filled,
-    pub home: u32,
+    pub id: u32,
     pub start: usize,
     pub size: u32,
     pub made: usize,

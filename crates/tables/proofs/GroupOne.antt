@@ -134,7 +134,7 @@ module _ {ended : Bool} {f : Form} {text : List ℕ} {at head : ℕ} {xs₀ ys�
     rest-full s {n} h {q} i = rw (i, h) (record {
       short = s;
       says = w .entries ∙ here (λ (es : List (Taken entries.Entry)). fold addEntry (w .sofar) es ≡ refused n (o .next)) refuses;
-      areas = kept-areas (w .sofar) (o .next) (w .held) en d h ∙ (w .held .areas ∙ ap (λ (t : Tables). sets xs₀ 0 (flat areaNumbers (t .areas))) (sym far));
+      areas = kept-areas (w .sofar) (o .next) (w .held) en d h ∙ (w .held .areas ∙ ap (λ (t : Tables). sets xs₀ 0 (flat (areaNumbers 0) (t .areas))) (sym far));
       symbols = kept-symbols (w .sofar) (o .next) (w .held) en d h ∙ (w .held .symbols ∙ ap (λ (t : Tables). sets ys₀ 0 (flat symbolNumbers (t .symbols))) (sym far));
     })
       where

@@ -58,9 +58,9 @@ snoc g k e room xs x n h =
     let l : k * n ≡ 0 + length (flat g xs) = rw h (omega (arith, flat-length g k e xs)) in
     rw (flat-snoc g xs x, l) (sym (sets-append room 0 (flat g xs) (g x)))
 
-pub six-numbers : (y : Area) → length (areaNumbers y) ≡ 6
+pub seven-numbers : (y : Area) → length (areaNumbers 0 y) ≡ 7
 unfolding areaNumbers
-six-numbers y = refl
+seven-numbers y = refl
 
 pub five-numbers : (y : Sym) → length (symbolNumbers y) ≡ 5
 unfolding symbolNumbers
@@ -78,7 +78,7 @@ module _ (t : Tables) (p : ℕ) {xs₀ ys₀ xs ys : List ℕ} {na ns : ℕ} (w 
 
   -- by the entry and its test
   area-room : (a k z g : ℕ) (x : Addr) (b : Bool) → ltb na 64 ≡ b → {r : Added} {xs′ ys′ : List ℕ} {m n : ℕ}
-      → r ≡ pick b (Room (na + 1) ns) (Full 5) → xs′ ≡ pick b (sets xs (6 * na) (areaNumbers (areaRow p (nameOf a k) z g (addrOf x)))) xs → ys′ ≡ ys
+      → r ≡ pick b (Room (na + 1) ns) (Full 5) → xs′ ≡ pick b (sets xs (7 * na) (areaNumbers 0 (areaRow p (nameOf a k) z g (addrOf x)))) xs → ys′ ≡ ys
       → r ≡ Room m n → Grown (of.Area a k z g x) xs′ ys′ m n
   unfolding addArea
   area-room a k z g x false q e f h i = absurd (let y : _≡_ {A = ℕ} 0 1 = cc in omega arith)
@@ -90,7 +90,7 @@ module _ (t : Tables) (p : ℕ) {xs₀ ys₀ xs ys : List ℕ} {na ns : ℕ} (w 
         after = record { areas = t .areas ++ row ∷ []; symbols = t .symbols };
         adds = rw (← w .area-count, q);
         holds = record {
-          areas = f ∙ (ap (λ (l : List ℕ). sets l (6 * na) (areaNumbers row)) (w .areas) ∙ snoc areaNumbers 6 six-numbers xs₀ (t .areas) row na (w .area-count));
+          areas = f ∙ (ap (λ (l : List ℕ). sets l (7 * na) (areaNumbers 0 row)) (w .areas) ∙ snoc (areaNumbers 0) 7 seven-numbers xs₀ (t .areas) row na (w .area-count));
           symbols = h ∙ w .symbols;
           area-count = simp length-append (omega (arith, w .area-count));
           symbol-count = sym d ∙ w .symbol-count;

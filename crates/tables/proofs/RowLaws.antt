@@ -33,11 +33,12 @@ three l i a b c e f g =
 pub ruleset putting = (needs, three)
 
 module _ (l : List ℕ) (row at len : ℕ) where
-  pub six : (size flags : ℕ) (x : Option ℕ) {v w : ℕ} {l₁ l₂ : List ℕ} → l₁ ≡ sets l (6 * row) (at ∷ len ∷ size ∷ []) → v ≡ given x → w ≡ orZero x
-      → l₂ ≡ sets l₁ (6 * row + 3) (flags ∷ v ∷ w ∷ []) → l₂ ≡ sets l (6 * row) (at ∷ len ∷ size ∷ flags ∷ given x ∷ orZero x ∷ [])
-  six size flags x e p q f =
-      let m : 6 * row + 3 ≡ suc (suc (suc (6 * row))) = omega arith in
-      rw (f, e, p, q, m)
+  pub seven : (size flags : ℕ) (x : Option ℕ) {v w : ℕ} {l₁ l₂ l₃ : List ℕ} → l₁ ≡ sets l (7 * row) (at ∷ len ∷ size ∷ []) → v ≡ given x → w ≡ orZero x
+      → l₂ ≡ sets l₁ (7 * row + 3) (flags ∷ v ∷ w ∷ []) → l₃ ≡ set l₂ (7 * row + 6) 0 → l₃ ≡ sets l (7 * row) (at ∷ len ∷ size ∷ flags ∷ given x ∷ orZero x ∷ 0 ∷ [])
+  seven size flags x e p q f g =
+      let m : 7 * row + 3 ≡ suc (suc (suc (7 * row))) = omega arith in
+      let n : 7 * row + 6 ≡ suc (suc (suc (suc (suc (suc (7 * row)))))) = omega arith in
+      rw (g, f, e, p, q, m, n)
 
   pub five : (r : Bool) (value home : ℕ) {v : ℕ} {l₁ l₂ l₃ : List ℕ} → l₁ ≡ sets l (5 * row) (at ∷ len ∷ v ∷ []) → v ≡ flag r → l₂ ≡ set l₁ (5 * row + 3) value → l₃ ≡ set l₂ (5 * row + 4) home
       → l₃ ≡ sets l (5 * row) (at ∷ len ∷ flag r ∷ value ∷ home ∷ [])
@@ -46,7 +47,7 @@ module _ (l : List ℕ) (row at len : ℕ) where
       let n : 5 * row + 4 ≡ suc (suc (suc (suc (5 * row)))) = omega arith in
       rw (g, f, e, p, m, n)
 
-pub ruleset rowing = (needs, six, five)
+pub ruleset rowing = (needs, seven, five)
 
 -- `add_entry`
 last-number : (n : ℕ) → plusOneOrZero (lastIndex n) ≡ n
@@ -76,7 +77,7 @@ module _ {en : Entry} (p na ns : ℕ) (xs ys : List ℕ) where
     pub add-area-full : 64 ≤ na → Adds en p na ns xs ys (Full 5) xs ys
     add-area-full h = rw e (record { answered = rw (le-ltb na 64 h); areas = rw (le-ltb na 64 h); symbols = refl })
 
-    pub add-area-room : na < 64 → {xs′ : List ℕ} → xs′ ≡ sets xs (6 * na) ((p + a) ∷ k ∷ z ∷ g ∷ given (addrOf x) ∷ orZero (addrOf x) ∷ []) → {r : Added} → r ≡ Room (na + 1) ns → Adds en p na ns xs ys r xs′ ys
+    pub add-area-room : na < 64 → {xs′ : List ℕ} → xs′ ≡ sets xs (7 * na) ((p + a) ∷ k ∷ z ∷ g ∷ given (addrOf x) ∷ orZero (addrOf x) ∷ 0 ∷ []) → {r : Added} → r ≡ Room (na + 1) ns → Adds en p na ns xs ys r xs′ ys
     unfolding areaNumbers areaRow named base
     add-area-room h f i = rw (e, i) (record { answered = rw (lt-ltb na 64 h); areas = rw (lt-ltb na 64 h) f; symbols = refl })
 

@@ -15,7 +15,7 @@ use Rattle.format.specs.Tables.{Area, Symbol, Tables, base, orZero, lastIndex}
 use Rattle.format.specs.Rows.{areaNumbers, symbolNumbers, given, flag, plusOneOrZero}
 use Rattle.laws.specs.Rows.{from, givenBy, areaAt, areasIn, symbolAt, symbolsIn, tablesIn}
 use Rattle.tables.specs.GroupOne.{Hold}
-use Rattle.tables.proofs.Growth.{flat-length, six-numbers, five-numbers}
+use Rattle.tables.proofs.Growth.{flat-length, seven-numbers, five-numbers}
 use Rattle.steps.proofs.Stored.{laid}
 
 -- rows that stand one after another decode to what they were made of
@@ -56,13 +56,13 @@ index-back : (o : Option ℕ) → lastIndex (plusOneOrZero o) ≡ o
 index-back none = refl
 index-back (some n) = refl
 
-area-back : (pre : List ℕ) (a : Area) (post : List ℕ) (i : ℕ) → length pre ≡ 6 * i → areaAt (pre ++ (areaNumbers a ++ post)) i ≡ a
+area-back : (pre : List ℕ) (a : Area) (post : List ℕ) (i : ℕ) → length pre ≡ 7 * i → areaAt (pre ++ (areaNumbers 0 a ++ post)) i ≡ a
 unfolding areaAt areaNumbers base
 area-back pre a post i e =
-    let ys = areaNumbers a ++ post in
-    let c = column pre ys (6 * i) e in
-    let x : givenBy (getD (pre ++ ys) (6 * i + 4) 0) (getD (pre ++ ys) (6 * i + 5) 0) ≡ a .addr = rw (c 4, c 5) (given-back (a .addr)) in
-    λ j. record { name = record { at = first-column pre ys (6 * i) e j; length = c 1 j }; size = c 2 j; flags = c 3 j; addr = x j }
+    let ys = areaNumbers 0 a ++ post in
+    let c = column pre ys (7 * i) e in
+    let x : givenBy (getD (pre ++ ys) (7 * i + 4) 0) (getD (pre ++ ys) (7 * i + 5) 0) ≡ a .addr = rw (c 4, c 5) (given-back (a .addr)) in
+    λ j. record { name = record { at = first-column pre ys (7 * i) e j; length = c 1 j }; size = c 2 j; flags = c 3 j; addr = x j }
 
 symbol-back : (pre : List ℕ) (s : Symbol) (post : List ℕ) (i : ℕ) → length pre ≡ 5 * i → symbolAt (pre ++ (symbolNumbers s ++ post)) i ≡ s
 unfolding symbolAt symbolNumbers
@@ -74,10 +74,10 @@ symbol-back pre s post i e =
     λ j. record { name = record { at = first-column pre ys (5 * i) e j; length = c 1 j }; ref = r j; value = c 3 j; area = a j }
 
 -- the tables that the rows of group one hold
-module _ {t : Tables} {xs₀ ys₀ xs ys : List ℕ} {na ns : ℕ} (w : Hold t xs₀ ys₀ xs ys na ns) (h : 6 * na ≤ length xs₀) (i : 5 * ns ≤ length ys₀) where
+module _ {t : Tables} {xs₀ ys₀ xs ys : List ℕ} {na ns : ℕ} (w : Hold t xs₀ ys₀ xs ys na ns) (h : 7 * na ≤ length xs₀) (i : 5 * ns ≤ length ys₀) where
   pub areas-held : areasIn xs na ≡ t .areas
   unfolding areasIn
-  areas-held = held-rows areaNumbers 6 six-numbers areaAt area-back (t .areas) xs₀ xs na (w .area-count) h (w .areas)
+  areas-held = held-rows (areaNumbers 0) 7 seven-numbers areaAt area-back (t .areas) xs₀ xs na (w .area-count) h (w .areas)
 
   pub symbols-held : symbolsIn ys ns ≡ t .symbols
   unfolding symbolsIn

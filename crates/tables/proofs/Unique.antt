@@ -35,7 +35,7 @@ module _ (ended : Bool) (f : Form) (text : List ℕ) (at head : ℕ) (xs₀ ys�
       let names : a .symbols ≡ b .symbols = u .held .symbol-count ∙ (ap (λ (x : Tables). length (x .symbols)) t ∙ sym (v .held .symbol-count)) in
       record {
         answer = λ j. Done (record { areas = all j; symbols = names j; next = (sym (u .next-is) ∙ v .next-is) j; stop = (sym (u .stop-is) ∙ v .stop-is) j; more = (sym (u .more-is) ∙ v .more-is) j });
-        areas = u .held .areas ∙ (ap (λ (x : Tables). sets xs₀ 0 (flat areaNumbers (x .areas))) t ∙ sym (v .held .areas));
+        areas = u .held .areas ∙ (ap (λ (x : Tables). sets xs₀ 0 (flat (areaNumbers 0) (x .areas))) t ∙ sym (v .held .areas));
         symbols = u .held .symbols ∙ (ap (λ (x : Tables). sets ys₀ 0 (flat symbolNumbers (x .symbols))) t ∙ sym (v .held .symbols));
       }
 

@@ -32,7 +32,7 @@ addedOf (Symbol a k r v) na ns = pick (ltb ns 1024) (Room na (ns + 1)) (Full 6)
 addedOf Ignored na ns = Room na ns
 
 abbrev pub areasAfter : (place areas : ℕ) → List ℕ → Entry → List ℕ
-areasAfter p na rows (Area a k z g x) = pick (ltb na 64) (sets rows (6 * na) (areaNumbers (areaRow p (nameOf a k) z g (addrOf x)))) rows
+areasAfter p na rows (Area a k z g x) = pick (ltb na 64) (sets rows (7 * na) (areaNumbers 0 (areaRow p (nameOf a k) z g (addrOf x)))) rows
 areasAfter p na rows (Symbol a k r v) = rows
 areasAfter p na rows Ignored = rows
 
@@ -53,7 +53,7 @@ refusalOf (Room a s) p = Refused 0 p
 
 -- the rows of tables, in what was lent for them
 pub record Hold (t : Tables) (xs₀ ys₀ xs ys : List ℕ) (na ns : ℕ) : Type 0 where
-  pub areas : xs ≡ sets xs₀ 0 (flat areaNumbers (t .areas))
+  pub areas : xs ≡ sets xs₀ 0 (flat (areaNumbers 0) (t .areas))
   pub symbols : ys ≡ sets ys₀ 0 (flat symbolNumbers (t .symbols))
   pub area-count : na ≡ length (t .areas)
   pub symbol-count : ns ≡ length (t .symbols)
@@ -111,7 +111,7 @@ pub record Read (ended : Bool) (f : Form) (text : List ℕ) (at head : ℕ) (xs�
 pub record Refuses (ended : Bool) (f : Form) (text : List ℕ) (at : ℕ) (xs₀ ys₀ xs ys : List ℕ) (n p : ℕ) : Type 0 where
   pub short : length text ≤ 65536
   pub says : tables (recordsAt ended f text at .entries) ≡ refused n p
-  pub areas : xs ≡ sets xs₀ 0 (flat areaNumbers (asFar noTables (recordsAt ended f text at .entries) .areas))
+  pub areas : xs ≡ sets xs₀ 0 (flat (areaNumbers 0) (asFar noTables (recordsAt ended f text at .entries) .areas))
   pub symbols : ys ≡ sets ys₀ 0 (flat symbolNumbers (asFar noTables (recordsAt ended f text at .entries) .symbols))
 
 unfoldable pub Grouped : Bool → Form → List ℕ → (at head : ℕ) → (xs₀ ys₀ xs ys : List ℕ) → Listed → Type 0

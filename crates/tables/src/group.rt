@@ -60,7 +60,7 @@ pub fn group_one(
     head: usize,
     form: Form,
     ended: bool,
-    areas: &mut [u32; 384],
+    areas: &mut [u32; 448],
     symbols: &mut [u32; 5120],
 ) -> Listed
     ensures { λ r. ⌜ Grouped ended (formOf form) (now (t .entry)) at head (now (areas .entry)) (now (symbols .entry)) (now (areas .exit)) (now (symbols .exit)) r ⌝ }

@@ -57,14 +57,15 @@ fn or_zero(a: Addr) -> u32
     }
 }
 
-// An area's row.
+// An area's row. Nothing is known of it yet.
 fn put_area(out: &mut [u32], row: usize, at: usize, len: usize, size: u32, flags: u32, addr: Addr)
     requires { ⌜ (row ≤ 64) × (at + len ≤ 65536) ⌝ }
-    ensures { λ _. ⌜ now (out .exit) ≡ sets (now (out .entry)) (6 * row) (at ∷ len ∷ size ∷ flags ∷ given (addrOf addr) ∷ orZero (addrOf addr) ∷ []) ⌝ }
+    ensures { λ _. ⌜ now (out .exit) ≡ sets (now (out .entry)) (7 * row) (at ∷ len ∷ size ∷ flags ∷ given (addrOf addr) ∷ orZero (addrOf addr) ∷ 0 ∷ []) ⌝ }
 {
-    let i = 6 * row;
+    let i = 7 * row;
     put3(out, i, at as u32, len as u32, size);
-    put3(out, i + 3, flags, is_given(addr), or_zero(addr))
+    put3(out, i + 3, flags, is_given(addr), or_zero(addr));
+    put_u32(out, i + 6, 0)
 }
 
 // A symbol's row; area counts from 1, 0 is none.
@@ -101,7 +102,7 @@ pub(crate) fn add_entry(
     entry: Entry,
     p: usize,
     f: Found,
-    areas: &mut [u32; 384],
+    areas: &mut [u32; 448],
     symbols: &mut [u32; 5120],
 ) -> Added
     requires { ⌜ (Placed 65536 p entry) × (f .areas ≤ 64) × (f .symbols ≤ 1024) ⌝ }

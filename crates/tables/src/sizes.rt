@@ -53,7 +53,7 @@ fn sizes_in(areas: &[u32], n: usize) -> Sizes
 }
 
 // The kept ones of the first n rows of an array of 64.
-pub fn sizes_of(areas: &[u32; 384], n: usize) -> Sizes
+pub fn sizes_of(areas: &[u32; 448], n: usize) -> Sizes
     ensures { λ r. ⌜ SizesAre (now (areas .entry)) (few n) r ⌝ }
 {
     if n <= 64 {

@@ -67,28 +67,28 @@ pub ruleset highs = (needs, high-none)
 
 -- `has_room`
 module _ (b : Lent) where
-  pub room-areas : b .areas < 384 → false ≡ roomy b
+  pub room-areas : b .areas < 448 → false ≡ roomy b
   unfolding roomy lentRoom
-  room-areas h = rw (lt-leb 384 (b .areas) h)
+  room-areas h = rw (lt-leb 448 (b .areas) h)
 
-  module _ (h : 384 ≤ b .areas) where
+  module _ (h : 448 ≤ b .areas) where
     pub room-symbols : b .symbols < 5120 → false ≡ roomy b
     unfolding roomy lentRoom
-    room-symbols i = rw (le-leb 384 (b .areas) h, lt-leb 5120 (b .symbols) i)
+    room-symbols i = rw (le-leb 448 (b .areas) h, lt-leb 5120 (b .symbols) i)
 
     module _ (i : 5120 ≤ b .symbols) where
       pub room-values : b .values < 65536 → false ≡ roomy b
       unfolding roomy lentRoom
-      room-values j = rw (le-leb 384 (b .areas) h, le-leb 5120 (b .symbols) i, lt-leb 65536 (b .values) j)
+      room-values j = rw (le-leb 448 (b .areas) h, le-leb 5120 (b .symbols) i, lt-leb 65536 (b .values) j)
 
       module _ (j : 65536 ≤ b .values) where
         pub room-masks : b .masks < 65536 → false ≡ roomy b
         unfolding roomy lentRoom
-        room-masks k = rw (le-leb 384 (b .areas) h, le-leb 5120 (b .symbols) i, le-leb 65536 (b .values) j, lt-leb 65536 (b .masks) k)
+        room-masks k = rw (le-leb 448 (b .areas) h, le-leb 5120 (b .symbols) i, le-leb 65536 (b .values) j, lt-leb 65536 (b .masks) k)
 
         pub room-fixups : 65536 ≤ b .masks → leb 9216 (b .fixups) ≡ roomy b
         unfolding roomy lentRoom
-        room-fixups k = rw (le-leb 384 (b .areas) h, le-leb 5120 (b .symbols) i, le-leb 65536 (b .values) j, le-leb 65536 (b .masks) k)
+        room-fixups k = rw (le-leb 448 (b .areas) h, le-leb 5120 (b .symbols) i, le-leb 65536 (b .values) j, le-leb 65536 (b .masks) k)
 
 pub ruleset rooming = (needs, room-areas, room-symbols, room-values, room-masks, room-fixups)
 
@@ -102,9 +102,9 @@ rooms b h =
     let a = both-true _ (leb 9216 (b .fixups)) h in
     let c = both-true _ (leb 65536 (b .masks)) (a .0) in
     let d = both-true _ (leb 65536 (b .values)) (c .0) in
-    let e = both-true (leb 384 (b .areas)) (leb 5120 (b .symbols)) (d .0) in
+    let e = both-true (leb 448 (b .areas)) (leb 5120 (b .symbols)) (d .0) in
     record {
-      for-areas = leb-true 384 (b .areas) (e .0);
+      for-areas = leb-true 448 (b .areas) (e .0);
       for-symbols = leb-true 5120 (b .symbols) (e .1);
       for-values = leb-true 65536 (b .values) (d .1);
       for-masks = leb-true 65536 (b .masks) (c .1);

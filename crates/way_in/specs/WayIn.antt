@@ -34,7 +34,7 @@ toldGate (Shut n p) = refused n p
 
 -- the lent buffers have room
 pub record Rooms (areas symbols values masks fixups : ℕ) : Type 0 where
-  pub for-areas : 384 ≤ areas
+  pub for-areas : 448 ≤ areas
   pub for-symbols : 5120 ≤ symbols
   pub for-values : 65536 ≤ values
   pub for-masks : 65536 ≤ masks

@@ -68,7 +68,7 @@ fn first_high(t: &[u8]) -> usize
 fn has_room(lent: Lent) -> bool
     ensures { λ r. ⌜ r ≡ roomy lent ⌝ }
 {
-    if lent.areas < 384 {
+    if lent.areas < 448 {
         return false;
     }
     if lent.symbols < 5120 {

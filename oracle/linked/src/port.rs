@@ -1,7 +1,7 @@
 //! The static library's ended reading and its two targets.
 
 /// Numbers in a row of each table.
-pub const AREA: usize = 6;
+pub const AREA: usize = 7;
 pub const SYMBOL: usize = 5;
 pub const FIXUP: usize = 9;
 

@@ -5,12 +5,14 @@ use gatecobalt::Counts;
 use oracle::generate::Random;
 use oracle::{places, Fixup, Kept, Places, Reference, Tables};
 
+/// Numbers in an area's row that the Rust's tables give: all but the known bits.
+const AREA: usize = 6;
 /// Numbers in a fixup's row.
 const FIXUP: usize = 9;
 /// Numbers in a symbol's row.
 const SYMBOL: usize = 5;
 
-/// The area rows that the Rust's tables give.
+/// The area rows that the Rust's tables give: all but the known bits, which the Rust does not tell.
 fn area_rows(tables: &Tables, places: &Places) -> Vec<u32> {
     let rows = tables.areas.iter().zip(&places.areas).zip(&places.flags);
     let row = |((area, place), flags): ((&oracle::Area, &oracle::Place), &u32)| {
@@ -19,6 +21,18 @@ fn area_rows(tables: &Tables, places: &Places) -> Vec<u32> {
         [place.name as u32, place.length as u32, area.size, *flags, given, base]
     };
     rows.flat_map(row).collect()
+}
+
+/// Whether area rows are the Rust's, each with the ones in the masks of the Rust's image behind it;
+/// 0 for an area that is not kept.
+fn same_areas(rows: &[u32], tables: &Tables, places: &Places, kept: &[Kept]) -> bool {
+    let ones = |area: &Kept| area.image.iter().map(|entry| entry.1.count_ones()).sum::<u32>();
+    let mut images = kept.iter().map(ones);
+    let known = tables.areas.iter();
+    let known = known.map(|area| if area.kept() { images.next().unwrap_or(0) } else { 0 });
+    let told = area_rows(tables, places);
+    let told = told.chunks_exact(AREA).zip(known);
+    rows.iter().copied().eq(told.flat_map(|(row, known)| row.iter().copied().chain([known])))
 }
 
 /// The symbol rows that the Rust's tables give.
@@ -143,7 +157,7 @@ impl Told<'_> {
         if !self.counted(counts) {
             return Err("counts");
         }
-        if rows.areas != area_rows(self.tables, &places) {
+        if !same_areas(rows.areas, self.tables, &places, self.kept) {
             return Err("area rows");
         }
         if rows.symbols != symbol_rows(self.tables, &places) {

@@ -8,14 +8,18 @@ const POSITIONS: usize = 1_500;
 /// Of texts longer than this only the plain reading is compared.
 const LONG: usize = 20_000;
 
-/// An area's numbers: name's place and length, size, flags, addr given, addr.
-fn area_rows(tables: &Tables, places: &Places) -> Vec<u64> {
+/// An area's numbers: name's place and length, size, flags, addr given, addr, and the ones in the
+/// masks of the Rust's image, 0 if the area is not kept.
+fn area_rows(tables: &Tables, places: &Places, kept: &[Kept]) -> Vec<u64> {
+    let ones = |area: &Kept| area.image.iter().map(|entry| u64::from(entry.1.count_ones())).sum();
+    let mut known = kept.iter().map(ones);
     let rows = tables.areas.iter().zip(places.areas.iter().zip(&places.flags));
     let numbers = rows.flat_map(|(area, (place, flags))| {
         assert!(area.absolute == (flags & 0x08 != 0) && area.code == (flags & 0x20 != 0));
         let (name, length) = (place.name as u64, place.length as u64);
         let (given, base) = (area.base.is_some().into(), area.base.unwrap_or(0).into());
-        [name, length, area.size.into(), (*flags).into(), given, base]
+        let known: u64 = if area.kept() { known.next().unwrap_or(0) } else { 0 };
+        [name, length, area.size.into(), (*flags).into(), given, base, known]
     });
     numbers.collect()
 }
@@ -69,7 +73,7 @@ fn accepted(
     let masks = positions.map(|(_, mask)| u64::from(*mask)).collect();
     let mut rows = if images { vec![values, masks] } else { vec![] };
     rows.push(counts(tables, kept, stopped));
-    rows.push(area_rows(tables, &places));
+    rows.push(area_rows(tables, &places, kept));
     rows.push(symbol_rows(tables, &places));
     for (home, area) in kept.iter().enumerate() {
         rows.extend(area.fixups.iter().map(|fixup| fixup_row(home, fixup)));

@@ -1,14 +1,17 @@
 use Rattle.images.proofs.ImageLaws.{imaging}
-use Rattle.images.proofs.ImageLaws.{Imaging}
 use Prim.Native.Nat.{_-_}
+use Rattle.images.proofs.ImageLaws.{Imaging}
 use Rattle.images.proofs.image.write_entries.Statement.{statement}
 use Rattle.images.proofs.image.write_entries.Tie as tie
+use Rattle.images.proofs.image.write_entries.Reads as reads
+use Rattle.images.proofs.image.write_entries.Lts as lts
+use Rattle.images.proofs.image.write_entry.Reads as write-entry-reads
 
 abbrev Inv-loop : tie.InvT-loop
-Inv-loop site wv wm wk values₀ masks₀ n e₀ p₀ values masks e p = Imaging site wv wm wk values₀ masks₀ n values masks e p
+Inv-loop site wv wm wk values₀ masks₀ count k₀ n e₀ p₀ values masks k e p = Imaging site wv wm wk count values₀ masks₀ n values masks k e p
 
 abbrev μ-loop : tie.MeasureT-loop
-μ-loop site wv wm wk values₀ masks₀ n e₀ p₀ values masks e p = n - e
+μ-loop site wv wm wk values₀ masks₀ count k₀ n e₀ p₀ values masks k e p = n - e
 
 add-n : tie.Need-add-n Inv-loop μ-loop
 add-n c = search imaging

@@ -1,6 +1,11 @@
 use Rattle.images.proofs.ImageLaws.{writing}
 use Rattle.images.proofs.image.write_entry.Statement.{statement}
 use Rattle.images.proofs.image.write_entry.Tie as tie
+use Rattle.images.proofs.image.write_entry.Reads as reads
+use Rattle.images.proofs.image.write_entry.Lts as lts
+use Rattle.cells.proofs.put.Reads as put-reads
+use Rattle.cells.proofs.wide.Reads as wide-reads
+use Rattle.images.proofs.count.put_mask.Reads as put-mask-reads
 
 wide-requires : tie.Need-wide-requires
 wide-requires c κs = search writing
@@ -20,11 +25,11 @@ element-copy-out-put c = search writing
 put-requires : tie.Need-put-requires
 put-requires c κs = search writing
 
-element-copy-out-put-2 : tie.Need-element-copy-out-put-2
-element-copy-out-put-2 c = search writing
+element-copy-out-put-mask : tie.Need-element-copy-out-put-mask
+element-copy-out-put-mask c = search writing
 
-put-requires-2 : tie.Need-put-requires-2
-put-requires-2 c κs = search writing
+put-mask-requires : tie.Need-put-mask-requires
+put-mask-requires c κs = search writing
 
 same-length : tie.Need-same-length
 same-length c = search writing
@@ -48,8 +53,8 @@ write-entry-spec =
     add-to
     element-copy-out-put
     put-requires
-    element-copy-out-put-2
-    put-requires-2
+    element-copy-out-put-mask
+    put-mask-requires
     same-length
     same-length-2
     returns

@@ -3,6 +3,7 @@ use Rattle.place.proofs.pair.place_pair.Statement.{statement}
 use Rattle.place.proofs.pair.place_pair.Tie as tie
 use Rattle.place.proofs.pair.place_pair.Reads as reads
 use Rattle.place.proofs.pair.place_pair.Lts as lts
+use Rattle.cells.proofs.wide.Reads as wide-reads
 use Rattle.place.proofs.pair.process_relocs.Reads as process-relocs-reads
 use Rattle.place.proofs.site.home_fits.Reads as home-fits-reads
 use Rattle.place.proofs.site.locate.Reads as locate-reads
@@ -18,6 +19,9 @@ locate-requires c κs = search placing
 
 enum-told : tie.Need-enum-told
 enum-told c = search placing
+
+wide-requires : tie.Need-wide-requires
+wide-requires c κs = search placing
 
 enum-told-2 : tie.Need-enum-told-2
 enum-told-2 c = search placing
@@ -54,6 +58,7 @@ place-pair-spec =
     returns
     locate-requires
     enum-told
+    wide-requires
     enum-told-2
     enum-known-site
     process-relocs-requires

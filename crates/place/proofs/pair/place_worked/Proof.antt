@@ -52,15 +52,7 @@ same-length-5 : tie.Need-same-length-5
 same-length-5 c = search relocating
 
 returns-4 : tie.Need-returns-4
-returns-4 c =
-    let w = c .before .before .before .before in
-    let k = w .before .before .before in
-    let p = k .before .before .before .before .before in
-    let t = p .before .before in
-    let b = t .before .before .before .before .before in
-    let a = b .before .before .before .before .before .before in
-    let h = a .pre .0 in
-    search relocating
+returns-4 c = let w = c .before .before .before .before in let k = w .before .before .before in let p = k .before .before .before .before .before in let t = p .before .before in let b = t .before .before .before .before .before in let a = b .before .before .before .before .before .before in let h = a .pre .0 in search relocating
 
 pub place-worked-spec : {M : Type 1} → statement M
 place-worked-spec =

@@ -1,4 +1,5 @@
-use Rattle.reading.proofs.GroupTwo.{body-made}
+use native.Mathlib.Omega.{arith}
+use Rattle.reading.proofs.GroupTwo.{body-kept, body-made}
 use Rattle.reading.proofs.GroupTwo.{bodies}
 use Rattle.reading.proofs.turn.place_body.Statement.{statement}
 use Rattle.reading.proofs.turn.place_body.Tie as tie
@@ -16,7 +17,12 @@ after-requires : tie.Need-after-requires
 after-requires c κs = search bodies
 
 returns : tie.Need-returns
-returns c = search bodies
+returns c =
+    let a = c .before .before .before .before .before .before .before .before .before in
+    body-kept (a .pre) _ _ _ _ _ _ (c .before .before .enum-told .given .1) (c .before .standing-in .ensures) (c .after .ensures)
+
+known-bits-requires : tie.Need-known-bits-requires
+known-bits-requires c κs = search bodies
 
 filled-of-requires : tie.Need-filled-of-requires
 filled-of-requires c κs = search bodies
@@ -26,6 +32,9 @@ home-for-requires c κs = search bodies
 
 place-pair-requires : tie.Need-place-pair-requires
 place-pair-requires c κs = search bodies
+
+keep-known-requires : tie.Need-keep-known-requires
+keep-known-requires c κs = search bodies
 
 standing-of-requires : tie.Need-standing-of-requires
 standing-of-requires c κs = search bodies
@@ -45,8 +54,21 @@ same-length-2 c = search bodies
 same-length-3 : tie.Need-same-length-3
 same-length-3 c = search bodies
 
+same-length-4 : tie.Need-same-length-4
+same-length-4 c = search bodies
+
 returns-2 : tie.Need-returns-2
-returns-2 c = let p = c .before .before .before .before .before .before .before .before .before in let h = p .before .before .before .before .before .before .before .before in let q = h .before in let s = q .before .before in let a = s .before .before .before .before .before .before .before in body-made (a .pre) _ _ _ _ _ _ (s .s .given .1) (q .filled-of .ensures) (h .home-for .ensures) (p .place-pair .ensures) (c .before .before .standing-of .ensures) (c .before .standing-in2 .ensures) (c .after2 .ensures)
+returns-2 c =
+    let kk = c .before .before .before .before .before in
+    let m = kk .before .before .before .before in
+    let p = m .before .before .before .before in
+    let h = p .before .before .before .before .before .before .before .before .before in
+    let q = h .before .before in
+    let b = q .before in
+    let s = b .before .before .before in
+    let a = s .before .before .before .before .before .before .before in
+    body-made (a .pre) _ _ _ _ _ _ (s .s .given .1) (b .known-bits .ensures) (q .filled-of .ensures) (h .home-for .ensures) (p .place-pair .ensures) (λ j. omega (arith, m .slice-known6 .given j)) (kk .keep-known .ensures)
+    (c .before .before .standing-of .ensures) (c .before .standing-in2 .ensures) (c .after2 .ensures)
 
 pub place-body-spec : {M : Type 1} → statement M
 place-body-spec =
@@ -57,13 +79,16 @@ place-body-spec =
     standing-in-requires
     after-requires
     returns
+    known-bits-requires
     filled-of-requires
     home-for-requires
     place-pair-requires
+    keep-known-requires
     standing-of-requires
     standing-in-requires-2
     after-requires-2
     same-length
     same-length-2
     same-length-3
+    same-length-4
     returns-2)

@@ -1,5 +1,6 @@
 use Rattle.reading.proofs.GroupTwo.{turns}
-use Rattle.reading.proofs.GroupTwo.{ready-low, turn-ready, turn-places, columns-then, lending}
+use Rattle.reading.proofs.Carrying.{carried-leave}
+use Rattle.reading.proofs.GroupTwo.{ready-low, turn-ready, turn-places, turn-carries, columns-then, lending}
 use Rattle.reading.proofs.turn.take_turn.Statement.{statement}
 use Rattle.reading.proofs.turn.take_turn.Tie as tie
 
@@ -19,10 +20,21 @@ turn-of-requires : tie.Need-turn-of-requires
 turn-of-requires c κs = search turns
 
 returns : tie.Need-returns
-returns c = (search turns, search lending)
+returns c =
+    let q = c .before .before .before in
+    let s = q .before in
+    let x1 = s .before .before .before .before .before .before .before .before .before .before in
+    let a = x1 .before in
+    (search turns, search lending, carried-leave (a .args .form) _ _ (s .pair-step .result) (a .args .g) (q .plan-of .ensures) (c .before .enum-told .given .1) (c .turn-of .ensures))
 
 place-body-requires : tie.Need-place-body-requires
-place-body-requires c κs = let p = c .before .before .before .before .before .before .before .before in let q = p .before .before in let s = q .before in let a = s .before .before .before .before .before .before .before .before .before .before .before in turn-ready (a .args .form) (a .pre .0) (s .pair-step .ensures .0) (q .plan-of .ensures) (p .plan .given .1) (a .pre .4) (ready-low (a .pre .0) (a .pre .1)) (a .pre .2) (a .pre .3)
+place-body-requires c κs =
+    let p = c .before .before .before .before .before .before .before .before .before in
+    let q = p .before .before in
+    let s = q .before in
+    let x1 = s .before .before .before .before .before .before .before .before .before .before in
+    let a = x1 .before in
+    turn-ready (a .args .form) (a .pre .0) (s .pair-step .ensures .0) (q .plan-of .ensures) (p .plan .given .1) (a .pre .4) (ready-low (a .pre .0) (a .pre .1)) (a .pre .2) (a .pre .3)
 
 same-length : tie.Need-same-length
 same-length c = search turns
@@ -33,8 +45,22 @@ same-length-2 c = search turns
 same-length-3 : tie.Need-same-length-3
 same-length-3 c = search turns
 
+same-length-4 : tie.Need-same-length-4
+same-length-4 c = search turns
+
 returns-2 : tie.Need-returns-2
-returns-2 c = let p = c .before .before .before .before .before .before .before .before .before .before .before .before .before .before .before in let q = p .before .before in let s = q .before in let a = s .before .before .before .before .before .before .before .before .before .before .before in (turn-places (a .args .form) (a .pre .0) (s .pair-step .ensures .0) (q .plan-of .ensures) (p .plan .given .1) (a .pre .4) (ready-low (a .pre .0) (a .pre .1)) _ (c .before .before .before .before .before .before .place-body .ensures), columns-then _ _ _ (a .pre .4) (s .pair-step .ensures .1))
+returns-2 c =
+    let b = c .before .before .before .before .before .before .before .before in
+    let p = b .before .before .before .before .before .before .before .before .before .before in
+    let q = p .before .before in
+    let s = q .before in
+    let x1 = s .before .before .before .before .before .before .before .before .before .before in
+    let a = x1 .before in
+    let low = ready-low (a .pre .0) (a .pre .1) in (
+      turn-places (a .args .form) (a .pre .0) (s .pair-step .ensures .0) (q .plan-of .ensures) (p .plan .given .1) (a .pre .4) low _ (b .place-body .ensures .0),
+      columns-then _ _ _ (a .pre .4) (s .pair-step .ensures .1),
+      turn-carries (a .args .form) (a .pre .0) (s .pair-step .ensures .0) (q .plan-of .ensures) (p .plan .given .1) (a .pre .4) low (b .place-body .ensures .1),
+    )
 
 pub take-turn-spec : {M : Type 1} → statement M
 take-turn-spec =
@@ -50,4 +76,5 @@ take-turn-spec =
     same-length
     same-length-2
     same-length-3
+    same-length-4
     returns-2)

@@ -1,6 +1,12 @@
 use Rattle.tables.proofs.RowLaws.{rowing}
 use Rattle.tables.proofs.rows.put_area.Statement.{statement}
 use Rattle.tables.proofs.rows.put_area.Tie as tie
+use Rattle.tables.proofs.rows.put_area.Reads as reads
+use Rattle.tables.proofs.rows.put_area.Lts as lts
+use Rattle.cells.proofs.put_u32.Reads as put-u32-reads
+use Rattle.tables.proofs.rows.is_given.Reads as is-given-reads
+use Rattle.tables.proofs.rows.or_zero.Reads as or-zero-reads
+use Rattle.tables.proofs.rows.put3.Reads as put3-reads
 
 mul-i : tie.Need-mul-i
 mul-i c = search rowing
@@ -26,6 +32,12 @@ or-zero-requires c κs = search rowing
 put3-requires-2 : tie.Need-put3-requires-2
 put3-requires-2 c κs = search rowing
 
+add-put-u32 : tie.Need-add-put-u32
+add-put-u32 c = search rowing
+
+put-u32-requires : tie.Need-put-u32-requires
+put-u32-requires c κs = search rowing
+
 same-length : tie.Need-same-length
 same-length c = search rowing
 
@@ -44,5 +56,7 @@ put-area-spec =
     is-given-requires
     or-zero-requires
     put3-requires-2
+    add-put-u32
+    put-u32-requires
     same-length
     returns)

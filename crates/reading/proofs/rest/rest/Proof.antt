@@ -1,6 +1,6 @@
 use Rattle.reading.proofs.Laid.{sizing}
-use Rattle.reading.proofs.images.rest.Statement.{statement}
-use Rattle.reading.proofs.images.rest.Tie as tie
+use Rattle.reading.proofs.rest.rest.Statement.{statement}
+use Rattle.reading.proofs.rest.rest.Tie as tie
 
 sizes-of-requires : tie.Need-sizes-of-requires
 sizes-of-requires c κs = search sizing

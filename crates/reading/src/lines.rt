@@ -6,7 +6,7 @@ ghost use Rattle.reading.specs.Answer.{held};
 ghost use Rattle.way_in.specs.WayIn.{Rooms};
 ghost use Rattle.reading.specs.Laid.{Laid, wholeLines};
 use crate::Answer;
-use crate::images::rest;
+use crate::rest::rest;
 use header::Form;
 use tables::Listed;
 use tables::group_one;
@@ -27,7 +27,7 @@ pub(crate) fn read_lines(
     requires { ⌜ (at ≤ length (now t)) × (length (now t) ≤ 65536) × (Rooms (length (now areas)) (length (now symbols)) (length (now values)) (length (now masks)) (length (now fixups))) ⌝ }
     ensures { λ r. ⌜ Laid (length (now (t .entry))) (wholeLines ended (formOf form) (now (t .entry)) at head) (held (now (areas .entry)) (now (symbols .entry)) (now (values .entry)) (now (masks .entry)) (now (fixups .entry))) r (held (now (areas .exit)) (now (symbols .exit)) (now (values .exit)) (now (masks .exit)) (now (fixups .exit))) ⌝ }
 {
-    let mut xs = [0u32; 384];
+    let mut xs = [0u32; 448];
     let mut ys = [0u32; 5120];
     let one = group_one(t, at, head, form, ended, &mut xs, &mut ys);
     match one {
@@ -44,7 +44,7 @@ pub(crate) fn read_lines(
             found,
             form,
             ended,
-            &xs,
+            &mut xs,
             &ys,
             areas,
             symbols,

@@ -1,6 +1,6 @@
 use Rattle.reading.proofs.Laid.{lines}
-use Rattle.reading.proofs.both.read_lines.Statement.{statement}
-use Rattle.reading.proofs.both.read_lines.Tie as tie
+use Rattle.reading.proofs.lines.read_lines.Statement.{statement}
+use Rattle.reading.proofs.lines.read_lines.Tie as tie
 
 group-one-requires : tie.Need-group-one-requires
 group-one-requires c κs = search lines
