@@ -1,0 +1,13 @@
+pub mod Orders
+pub mod Sorting
+pub mod Numbers
+pub mod Opening
+pub mod Writing
+pub mod Verdict
+pub mod Finding
+pub mod Doubles
+pub mod Numbering
+pub mod Twice
+pub mod Theorems
+pub mod Given
+pub mod Laws

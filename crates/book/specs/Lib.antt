@@ -1,0 +1,11 @@
+pub mod Names
+pub mod Entries
+pub mod Contents
+pub mod Written
+pub mod Opened
+pub mod Found
+pub mod Given
+pub mod Sets
+pub mod Examples
+pub mod Promises
+pub mod Steps
