@@ -1,0 +1,4 @@
+pub mod Entries
+pub mod Laying
+pub mod Laws
+pub mod Unique
