@@ -36,7 +36,7 @@ fn row_end(book: &[u8], i: u32) -> usize
 }
 
 // The second pass over n rows.
-pub fn second_pass(book: &[u8], n: u32) -> Ends
+pub(crate) fn second_pass(book: &[u8], n: u32) -> Ends
     ensures { λ r. ⌜ closed 4 (start n) (rows n (drop 4 (now (book .entry)))) ≡ endedOf r ⌝ }
 {
     let mut at: usize = place_of(n);

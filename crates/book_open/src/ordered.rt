@@ -57,7 +57,7 @@ fn row_fits(book: &[u8], i: u32) -> bool
 }
 
 // The first pass over n rows.
-pub fn first_pass(book: &[u8], n: u32) -> Pass
+pub(crate) fn first_pass(book: &[u8], n: u32) -> Pass
     ensures { λ r. ⌜ silent (ordered (now (book .entry)) 4 none (rows n (drop 4 (now (book .entry))))) ≡ passedOf r ⌝ }
 {
     let mut i: u32 = 0;

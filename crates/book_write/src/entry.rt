@@ -22,7 +22,7 @@ fn put_part(out: &mut [u8], to: usize, pool: &[u8], from: u32, n: u32)
 }
 
 // The body of the i-th entry, laid at a place: name, values, masks.
-pub fn put_body(out: &mut [u8], to: usize, pool: &[u8], rows: &[u32], i: u32)
+pub(crate) fn put_body(out: &mut [u8], to: usize, pool: &[u8], rows: &[u32], i: u32)
     requires { ⌜ to < 2 ^ 40 ⌝ }
     ensures { λ _. ⌜ now (out .exit) ≡ sets (now (out .entry)) to (body (entryAt (now (pool .entry)) (now (rows .entry)) i)) ⌝ }
 {
@@ -39,7 +39,7 @@ pub fn put_body(out: &mut [u8], to: usize, pool: &[u8], rows: &[u32], i: u32)
 }
 
 // A number as four bytes, the lowest first.
-pub fn put_number(out: &mut [u8], to: usize, v: u32)
+pub(crate) fn put_number(out: &mut [u8], to: usize, v: u32)
     ensures { λ _. ⌜ now (out .exit) ≡ sets (now (out .entry)) to (four v) ⌝ }
 {
     let bytes = [
@@ -63,7 +63,7 @@ fn put_row(out: &mut [u8], to: usize, a: u32, b: u32, c: u32, d: u32)
 }
 
 // The row of the i-th entry, whose body begins at a place.
-pub fn put_entry(out: &mut [u8], row: usize, pool: &[u8], rows: &[u32], i: u32, to: usize)
+pub(crate) fn put_entry(out: &mut [u8], row: usize, pool: &[u8], rows: &[u32], i: u32, to: usize)
     requires { ⌜ (row < 2 ^ 40) × (to + length (entryAt (now pool) (now rows) i .name) < 2 ^ 32) ⌝ }
     ensures { λ _. ⌜ now (out .exit) ≡ sets (now (out .entry)) row (rowBytes (rowFor to (entryAt (now (pool .entry)) (now (rows .entry)) i))) ⌝ }
 {

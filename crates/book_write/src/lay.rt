@@ -73,7 +73,7 @@ fn put_bodies(out: &mut [u8], pool: &[u8], rows: &[u32], order: &[u32], n: u32)
 }
 
 // The book of n entries by the list of their numbers.
-pub fn put_book(out: &mut [u8], pool: &[u8], rows: &[u32], order: &[u32], n: u32)
+pub(crate) fn put_book(out: &mut [u8], pool: &[u8], rows: &[u32], order: &[u32], n: u32)
     requires { ⌜ smallRows (rowsFor (start n) (listed (now pool) (now rows) (now order) 0 n)) ≡ true ⌝ }
     ensures { λ _. ⌜ now (out .exit) ≡ sets (now (out .entry)) 0 (bookOf (listed (now (pool .entry)) (now (rows .entry)) (now (order .entry)) 0 n)) ⌝ }
 {
