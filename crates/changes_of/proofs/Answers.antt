@@ -5,7 +5,7 @@ use mathlib.Core.Path.{_≡_, refl, ap, subst, sym, _∙_}
 use mathlib.Core.Bool.{Bool, true, false, _&&_}
 use mathlib.Core.List.{List, [], _∷_, _++_}
 use native.Mathlib.Omega.{arith}
-use lib.ListN.{length, take, drop, length-drop, length-take}
+use lib.ListN.{length, take, drop, replicate, length-drop, length-replicate, length-take}
 use lib.Seq.{sets}
 use lib.Dec.{leb}
 use borrow.Author.Needs.{needs}
@@ -32,7 +32,7 @@ use Rattle.read_rows.specs.Rows.{Accepts, Fit, moduleHeld, moduleIn}
 use Rattle.read_rows.proofs.Theorem.{a-refusal-was-read, what-is-held-was-read}
 use Rattle.changes_of.specs.Walk.{Walked, laid}
 use Rattle.changes_of.specs.Walk as walk
-use Rattle.changes_of.specs.Answer.{Compares, FitIf, Lists, NewerRead, bothOf, finishedOf, toldOf}
+use Rattle.changes_of.specs.Answer.{Changed, Compares, FitIf, Lists, NewerRead, bothOf, bounds, finishedOf, toldOf}
 use Rattle.changes_of.specs.declared.Told.{Told}
 use Rattle.changes_of.specs.declared.Told.the-variants.{NewerRefused, OlderRefused, Refused, Rows}
 use Rattle.changes_of.proofs.Going.{columns}
@@ -183,3 +183,27 @@ compares-is s old₁ new₁ a m t old₂ new₂ list {r} {after} g = record {
 pub ruleset newers = (needs, fit-of, newer-is)
 
 pub ruleset compares = (needs, fit-of, compares-is)
+
+-- `changes_of`: arrays of zeros
+abbrev zeros : ℕ → List ℕ
+zeros n = replicate n 0
+
+abbrev own : Held
+own = held (zeros 448) (zeros 5120) (zeros 65536) (zeros 65536) (zeros 9216)
+
+own-lengths : lengths own ≡ bounds
+unfolding lengths
+own-lengths = λ i. record {
+  areas = length-replicate {A = ℕ} 448 0 i;
+  symbols = length-replicate {A = ℕ} 5120 0 i;
+  values = length-replicate {A = ℕ} 65536 0 i;
+  masks = length-replicate {A = ℕ} 65536 0 i;
+  fixups = length-replicate {A = ℕ} 9216 0 i;
+}
+
+pub changed-is : (s t list : List ℕ) {r : Told} {new₁ new₂ : Held} {after : List ℕ}
+    → Compares s t (held (replicate 448 0) (replicate 5120 0) (replicate 65536 0) (replicate 65536 0) (replicate 9216 0)) (held (replicate 448 0) (replicate 5120 0) (replicate 65536 0) (replicate 65536 0) (replicate 9216 0)) list r new₁ new₂ after
+    → Changed s t list r after
+changed-is s t list {r} {new₁} {new₂} {after} a = record { lists = subst (λ (b : paper.Lent). Lists (compare b b s t list) r after) own-lengths (a .lists) }
+
+pub ruleset owning = (needs, changed-is)

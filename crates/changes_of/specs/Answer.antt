@@ -1,12 +1,13 @@
 -- The answer, as the definition has it, and the contract of the whole.
 -- Assumes nothing.
-use Prim.Native.Nat.{ℕ}
+use Prim.Native.Nat.{ℕ, _*_}
 use mathlib.Core.Path.{_≡_}
 use mathlib.Core.Bool.{true, _&&_}
 use mathlib.Core.List.{List}
 use Rattle.format.specs.Lists.{pick}
 use Rattle.format.specs.Records.{Verdict}
-use Rattle.format.specs.Reading.{Answer, Counts, accepted, reading, refusal}
+use Rattle.format.specs.Rows.{areaColumns, fixupColumns, symbolColumns}
+use Rattle.format.specs.Reading.{Answer, Counts, Lent, accepted, reading, refusal}
 use Rattle.format.specs.Held.{Held, Meets, lengths}
 use Rattle.difference.specs.Changes.{changes, newer, older}
 use Rattle.difference.specs.Told as the
@@ -53,3 +54,11 @@ pub record Compares (s t : List ℕ) (old₁ old₂ : Held) (list : List ℕ) (r
   pub older-read : Meets true s old₁ (reading true (lengths old₁) s .answer) new₁
   pub newer-read : Meets true t old₂ (reading true (lengths old₂) t .answer) new₂
   pub lists : Lists (compare (lengths old₁) (lengths old₂) s t list) r after
+
+-- buffers for a reading that have just the room for their bounds
+abbrev pub bounds : Lent
+bounds = record { areas = 64 * areaColumns; symbols = 1024 * symbolColumns; values = 65536; masks = 65536; fixups = 1024 * fixupColumns }
+
+-- the answer and the list, for two texts
+pub record Changed (s t list : List ℕ) (r : Told) (after : List ℕ) : Type 0 where
+  pub lists : Lists (compare bounds bounds s t list) r after

@@ -23,7 +23,7 @@ example g s = record { given = g; expected = s }
 
 -- buffers of just their bounds
 lent : Lent
-lent = record { areas = 64 * 6; symbols = 1024 * 5; values = 65536; masks = 65536; fixups = 1024 * 9 }
+lent = record { areas = 64 * 7; symbols = 1024 * 5; values = 65536; masks = 65536; fixups = 1024 * 9 }
 
 -- 1 and the count; 0 and the refusal; 2 for the older's, 3 for the newer's
 answerOf : Told → List ℕ

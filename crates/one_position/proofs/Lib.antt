@@ -4,3 +4,4 @@ pub mod BackLaws
 pub mod HomeLaws
 pub mod AnswerLaws
 pub mod Rows
+pub mod ExplainLaws

@@ -3,6 +3,9 @@ mod answer;
 mod back;
 mod home;
 mod pair;
+mod whole;
+
+pub use whole::explain;
 
 // A refusal with its number and place; that no line writes the position; or the value and mask that the last line to write it left there, and the place of its T.
 pub enum Explained {

@@ -63,7 +63,7 @@ pub ruleset at-site = (needs, cell-short, cell-beyond, cell-sought)
 
 -- no row is in use
 abbrev pub none-filled : Filled
-none-filled = record { areas = 0; symbols = 0; fixups = 0 }
+none-filled = record { areas = 0; symbols = 0; fixups = 0; known = 0 }
 
 -- `cell_of`: c is the test of the home and the counts
 module _ (table : List ℕ) (l : Line) (h : Home) (bs ms es : List ℕ) (want : ℕ) {c : Bool}

@@ -110,6 +110,7 @@ pub fn cell_of(
         areas: 0,
         symbols: 0,
         fixups: 0,
+        known: 0,
     };
     if !home_fits(home, line, filled, bs.len(), 9216) {
         return Cell::Misfit;

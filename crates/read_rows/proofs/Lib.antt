@@ -1,2 +1,3 @@
+pub mod AreaTable
 pub mod Grouped
 pub mod Theorem

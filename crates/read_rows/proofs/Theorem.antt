@@ -15,18 +15,20 @@ use Rattle.format.specs.Outcome.{Outcome, fine, refused}
 use Rattle.format.specs.Records.{Verdict, verdict}
 use Rattle.format.specs.Tables.{Area, Symbol, Tables, keptCount, room, total}
 use Rattle.format.specs.Fixups.{Fixup}
-use Rattle.format.specs.Rows.{areaColumns, areaNumbers, fixupNumbers, symbolColumns, symbolNumbers}
+use Rattle.format.specs.Rows.{areaNumbers, areaTable, fixupNumbers, symbolColumns, symbolNumbers}
 use Rattle.format.specs.Reading.{Answer, Counts, Lent, Read, Reading, accepted, countsOf, fixupsOf, read, reading, readingOf, refusal}
 use Rattle.format.specs.Held.{Held, Meets, lengths}
-use Rattle.laws.specs.Rows.{areasIn, fixupFrom, fixupRow, fixupsIn, from, symbolsIn}
+use Rattle.laws.specs.Rows.{areaAt, areasIn, fixupFrom, fixupRow, fixupsIn, from, symbolsIn}
+use Rattle.laws.proofs.Known.{table-length}
 use Rattle.laws.proofs.Room.{HasRoom, Small, Sized, flat-length, grouped-le, has-room, small-tables, sized-placing}
 use Rattle.laws.proofs.WasRead.{WasRead, what-was-read}
 use Rattle.steps.proofs.Stored.{laid}
 use Rattle.tables.specs.GroupOne.{Hold}
-use Rattle.tables.proofs.TableRows.{areas-held, column, first-column, symbols-held}
+use Rattle.tables.proofs.TableRows.{column, first-column, symbols-held}
 use Rattle.difference.specs.Module.{Module}
 use Rattle.difference.specs.Told.{moduleOf}
 use Rattle.read_rows.specs.Rows.{Accepts, Fit, moduleHeld, moduleIn}
+use Rattle.read_rows.proofs.AreaTable.{the-table-decodes}
 use Rattle.read_rows.proofs.Grouped.{grouping-loses-none}
 
 -- a fixup's row, read back
@@ -106,7 +108,7 @@ module _ (text : List ℕ) (old new : Held) (w : Read) (is : read true (lengths 
   size-is = room-with (leb (total built-areas) 65536) refl (was .builds .roomy)
 
   -- what each buffer holds
-  areas-new : new .areas ≡ over (flat areaNumbers built-areas) (old .areas)
+  areas-new : new .areas ≡ over (areaTable built-areas (w .built .state .masks)) (old .areas)
   areas-new = m .areas ∙ ap (λ (r : Reading). over (r .areas) (old .areas)) is-reading
 
   symbols-new : new .symbols ≡ over (flat symbolNumbers (w .built .tables .symbols)) (old .symbols)
@@ -121,22 +123,27 @@ module _ (text : List ℕ) (old new : Held) (w : Read) (is : read true (lengths 
   fixups-new : new .fixups ≡ over (flat fixupNumbers (fixupsOf (w .built))) (old .fixups)
   fixups-new = m .fixups ∙ ap (λ (r : Reading). over (r .fixups) (old .fixups)) is-reading
 
-  hold : Hold (w .built .tables) (old .areas) (old .symbols) (new .areas) (new .symbols) (length built-areas) (length (w .built .tables .symbols))
+  -- the symbols' rows, beside those of the areas with nothing known
+  hold : Hold (w .built .tables) (old .areas) (old .symbols) (sets (old .areas) 0 (flat (areaNumbers 0) built-areas)) (new .symbols) (length built-areas) (length (w .built .tables .symbols))
   unfolding lengths
   hold = record {
-    areas = areas-new ∙ over-sets (flat areaNumbers built-areas) (old .areas) (roomy .areas);
+    areas = refl;
     symbols = symbols-new ∙ over-sets (flat symbolNumbers (w .built .tables .symbols)) (old .symbols) (roomy .symbols);
     area-count = refl;
     symbol-count = refl;
   }
 
   areas-are : areasIn (new .areas) (length built-areas) ≡ built-areas
-  unfolding lengths areaNumbers symbolNumbers
-  areas-are = areas-held hold (omega (arith, roomy .areas, flat-length areaNumbers areaColumns (λ a. refl) built-areas)) (omega (arith, roomy .symbols, flat-length symbolNumbers symbolColumns (λ a. refl) (w .built .tables .symbols)))
+  unfolding areasIn over
+  areas-are =
+      ap (λ (l : List ℕ). from (areaAt l) 0 (length built-areas)) areas-new
+      ∙ the-table-decodes [] built-areas (w .built .state .masks) (drop (length (areaTable built-areas (w .built .state .masks))) (old .areas)) 0 (omega arith)
 
   symbols-are : symbolsIn (new .symbols) (length (w .built .tables .symbols)) ≡ w .built .tables .symbols
-  unfolding lengths areaNumbers symbolNumbers
-  symbols-are = symbols-held hold (omega (arith, roomy .areas, flat-length areaNumbers areaColumns (λ a. refl) built-areas)) (omega (arith, roomy .symbols, flat-length symbolNumbers symbolColumns (λ a. refl) (w .built .tables .symbols)))
+  unfolding lengths symbolNumbers
+  symbols-are =
+      symbols-held hold (omega (arith, roomy .areas, table-length built-areas (w .built .state .masks)))
+      (omega (arith, roomy .symbols, flat-length symbolNumbers symbolColumns (λ a. refl) (w .built .tables .symbols)))
 
   values-are : take (w .built .size) (new .values) ≡ w .built .state .values
   values-are = ap (take (w .built .size)) values-new ∙ over-take (w .built .state .values) (old .values) (w .built .size) (sized .values ∙ size-is .0)
