@@ -2,7 +2,7 @@
 use crate::old;
 use crate::texts::Set;
 use crate::turns::{heading, in_turn, line, Pair, Spread};
-use gatecobalt::{Reader, Records};
+use gatecobalt::{NotWhole, Reader, Records};
 use std::hint::black_box;
 
 /// Our readings.
@@ -18,15 +18,26 @@ fn read(which: &str, reader: &mut Reader, text: &[u8]) -> (usize, usize) {
     let found = match which {
         "rust" => std::str::from_utf8(text).ok().and_then(old::read),
         "plain" => reader.plain(text).ok().map(|plain| counts(plain.records())),
-        "ended" => reader.whole(text).ok().map(|module| counts(module.records())),
+        "ended" => match reader.whole(text) {
+            Ok(module) => Some(counts(module.records())),
+            Err(NotWhole::NotEqual(read)) => Some(counts(read.as_read())),
+            Err(_) => None,
+        },
         "plain+segments" => reader.plain(text).ok().map(|plain| {
             black_box(plain.plain_segments(0));
             counts(plain.records())
         }),
-        "ended+segments" => reader.whole(text).ok().map(|module| {
-            black_box(module.segments(0));
-            counts(module.records())
-        }),
+        "ended+segments" => match reader.whole(text) {
+            Ok(module) => {
+                black_box(module.segments(0));
+                Some(counts(module.records()))
+            }
+            Err(NotWhole::NotEqual(read)) => {
+                black_box(read.partial_segments(0));
+                Some(counts(read.as_read()))
+            }
+            Err(_) => None,
+        },
         _ => None,
     };
     found.unwrap_or((0, 0))

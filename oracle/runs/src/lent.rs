@@ -36,6 +36,8 @@ fn read(reading: Reading, text: &[u8], lent: Lent) -> Read {
             Err(NotWhole::Stopped(stopped)) => {
                 Ok((stopped.up_to_there().counts(), Verdict::Stopped(stopped.place())))
             }
+            // The H line's word is no part of what is compared here.
+            Err(NotWhole::NotEqual(unequal)) => Ok((unequal.as_read().counts(), Verdict::Finished)),
             Err(NotWhole::Refused(refused)) => Err(refused),
             Err(other) => panic!("{other}: nothing here compares this"),
         },
