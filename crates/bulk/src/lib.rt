@@ -11,7 +11,7 @@ enum Turn {
 
 // All that there is to read, or all that the room takes; or an error, which errno tells.
 pub enum Input {
-    Bytes(usize),
+    Text(usize),
     Failed,
 }
 
@@ -51,7 +51,7 @@ pub fn fill(fd: i32, room: &mut [u8]) -> Input
                 n = sink::end_of(n, more, room.len());
             }
             Turn::End => {
-                return Input::Bytes(n);
+                return Input::Text(n);
             }
             Turn::Failed => {
                 return Input::Failed;
@@ -59,5 +59,5 @@ pub fn fill(fd: i32, room: &mut [u8]) -> Input
         }
         turns -= 1;
     }
-    Input::Bytes(n)
+    Input::Text(n)
 }

@@ -15,14 +15,14 @@ fn write_reason(s: Sink, line: &Buffer) {
 }
 
 // A name, and why the last call failed.
-fn tell_reason(name: &[u8]) {
+pub fn tell_reason(name: &[u8]) {
     let mut line = io::large_buffer();
     let s = texts::name(sink::new(), &mut line, name);
     write_reason(s, &line)
 }
 
 // A name, and where the reading of its module stopped.
-fn tell_place(name: &[u8], place: usize) {
+pub fn tell_place(name: &[u8], place: usize) {
     let mut line = io::large_buffer();
     let s1 = texts::name(sink::new(), &mut line, name);
     let s2 = texts::decimal(s1, &mut line, b": stopped at ", place);
@@ -31,7 +31,7 @@ fn tell_place(name: &[u8], place: usize) {
 }
 
 // A name, and the number and the place of its module's refusal.
-fn tell_number(name: &[u8], number: usize, place: usize) {
+pub fn tell_number(name: &[u8], number: usize, place: usize) {
     let mut line = io::large_buffer();
     let s1 = texts::name(sink::new(), &mut line, name);
     let s2 = texts::decimal(s1, &mut line, b": refused ", number);
@@ -41,7 +41,7 @@ fn tell_number(name: &[u8], number: usize, place: usize) {
 }
 
 // A name, and some words.
-fn tell_words(name: &[u8], words: &[u8]) {
+pub fn tell_words(name: &[u8], words: &[u8]) {
     let mut line = io::large_buffer();
     let s1 = texts::name(sink::new(), &mut line, name);
     let s2 = sink::put(s1, &mut line, b": ");

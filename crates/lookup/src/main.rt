@@ -18,7 +18,7 @@ fn look(out: &mut Buffer, book: &[u8], i: usize) {
     let mut name = io::large_buffer();
     let n = os::arg(i, &mut name);
     if os::errno() != 0 {
-        told::complain(b"the name");
+        console::tell_reason(b"the name");
         return;
     }
     pattern::tell(out, book, sink::first_bytes(&name, n))
@@ -42,10 +42,10 @@ fn answer(out: &mut Buffer, book: &[u8], count: usize) {
 fn read(room: &mut Room, fd: i32, file: &[u8], count: usize) {
     let mut out = io::large_buffer();
     match bulk::fill(fd, room) {
-        Input::Failed => told::complain(file),
-        Input::Bytes(n) => {
+        Input::Failed => console::tell_reason(file),
+        Input::Text(n) => {
             if ROOM <= n {
-                told::too_long(file);
+                console::tell_words(file, b"longer than 2097152 bytes");
                 return;
             }
             answer(&mut out, sink::first_bytes(room, n), count)
@@ -62,19 +62,11 @@ fn open(file: &[u8], count: usize) {
     }
     let fd = os::open_read(file);
     if fd < 0 {
-        told::complain(file);
+        console::tell_reason(file);
         return;
     }
     read(&mut room, fd, file, count);
     libc::close(fd);
-}
-
-// Whether a word asks for help.
-fn is_help(word: &[u8]) -> bool {
-    if word.len() == 2 {
-        return cells::byte_at(word, 0) == b'-' && cells::byte_at(word, 1) == b'h';
-    }
-    word.len() == 6 && cells::byte_at(word, 0) == b'-' && cells::byte_at(word, 2) == b'h'
 }
 
 // The first argument: help, or the book's name.
@@ -82,11 +74,11 @@ fn first(count: usize) {
     let mut file = io::buffer();
     let n = os::arg(1, &mut file);
     if os::errno() != 0 {
-        told::complain(b"the book");
+        console::tell_reason(b"the book");
         return;
     }
     let word = sink::first_bytes(&file, n);
-    if is_help(word) {
+    if console::asks_help(word) {
         told::help();
         return;
     }
@@ -96,7 +88,7 @@ fn first(count: usize) {
 fn main() {
     let count = os::arg_count();
     if count < 2 || 3 < count {
-        told::usage();
+        console::tell_words(b"usage", b"lookup BOOK [NAME]");
         return;
     }
     first(count)

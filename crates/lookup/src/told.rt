@@ -14,22 +14,6 @@ pub(crate) fn refused(out: &mut Buffer, number: usize, place: usize) {
     }
 }
 
-// Why the last call failed.
-pub(crate) fn complain(name: &[u8]) {
-    os::fail(name)
-}
-
-// A file that is longer than the room for a book.
-pub(crate) fn too_long(name: &[u8]) {
-    io::write_all(STDERR_FILENO, name);
-    io::write_all(STDERR_FILENO, b": longer than 2097152 bytes\n");
-}
-
-// How the program is called.
-pub(crate) fn usage() {
-    io::write_all(STDERR_FILENO, b"usage: lookup BOOK [NAME]\n");
-}
-
 // The use, and what is written.
 pub(crate) fn help() {
     io::write_all(

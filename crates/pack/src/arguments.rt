@@ -12,13 +12,14 @@ use console::Operand;
 enum Word {
     Name,
     Skip,
+    Fixups,
     Help,
     End,
     Unknown,
 }
 
 // Whether a word of six bytes is --skip or --help, told by its third byte.
-fn six(word: &[u8; 8]) -> Word {
+fn six(word: &[u8; 10]) -> Word {
     if word[2] == b's' && word[3] == b'k' && word[4] == b'i' && word[5] == b'p' {
         return Word::Skip;
     }
@@ -28,8 +29,18 @@ fn six(word: &[u8; 8]) -> Word {
     Word::Unknown
 }
 
+// Whether a word of eight bytes is --fixups.
+fn is_fixups(word: &[u8; 10]) -> bool {
+    word[2] == b'f'
+        && word[3] == b'i'
+        && word[4] == b'x'
+        && word[5] == b'u'
+        && word[6] == b'p'
+        && word[7] == b's'
+}
+
 // What a word of n bytes is that begins with a dash.
-fn option(word: &[u8; 8], n: usize) -> Word {
+fn option(word: &[u8; 10], n: usize) -> Word {
     if n == 2 && word[1] == b'h' {
         return Word::Help;
     }
@@ -45,12 +56,15 @@ fn option(word: &[u8; 8], n: usize) -> Word {
     if n == 6 {
         return six(word);
     }
+    if n == 8 && is_fixups(word) {
+        return Word::Fixups;
+    }
     Word::Unknown
 }
 
 // What an argument is.
 fn word_at(i: usize) -> Word {
-    let mut word = [0u8; 8];
+    let mut word = [0u8; 10];
     let n = os::arg(i, &mut word);
     if word[0] != b'-' {
         return Word::Name;
@@ -58,12 +72,18 @@ fn word_at(i: usize) -> Word {
     option(&word, n)
 }
 
+// Tells of a name that is longer than a file's name can be.
+fn long_name(name: &mut [u8]) {
+    cells::copy_bytes(name, 60, b"..", 2);
+    console::tell_reason(sink::first_bytes(name, 62))
+}
+
 // The file that an argument names, under the name that another gives.
 fn shown(pool: &mut [u8], rows: &mut [u32], s: Shelf, file: &[u8], i: usize) -> Shelf {
     let mut name = io::buffer();
     let n = os::arg(i, &mut name);
     if os::errno() != 0 {
-        told::long_name(&name);
+        long_name(&mut name);
         return shelf::spoilt(s);
     }
     list::file(pool, rows, s, file, sink::first_bytes(&name, n))
@@ -74,15 +94,22 @@ fn operand(pool: &mut [u8], rows: &mut [u32], s: Shelf, o: Operand) -> Shelf {
     let mut file = io::buffer();
     let n = os::arg(o.file, &mut file);
     if os::errno() != 0 {
-        told::long_name(&file);
+        long_name(&mut file);
         return shelf::spoilt(s);
     }
     shown(pool, rows, s, sink::first_bytes(&file, n), o.shown)
 }
 
 // The modules that the arguments from the i-th on name; behind --, which stands before the first, none is an option.
-fn operands(pool: &mut [u8], rows: &mut [u32], first: usize, end: usize, count: usize) -> Shelf {
-    let mut now = shelf::new();
+fn operands(
+    pool: &mut [u8],
+    rows: &mut [u32],
+    s: Shelf,
+    first: usize,
+    end: usize,
+    count: usize,
+) -> Shelf {
+    let mut now = s;
     let mut i = first;
     while i < count {
         let o = console::operand_at(i, end);
@@ -93,37 +120,63 @@ fn operands(pool: &mut [u8], rows: &mut [u32], first: usize, end: usize, count: 
 }
 
 // The modules that are named, and their book.
-fn work(pool: &mut [u8], rows: &mut [u32], first: usize, end: usize, count: usize, skip: bool) {
+fn work(pool: &mut [u8], rows: &mut [u32], asked: Job, count: usize) {
+    let first = asked.first;
+    let skip = asked.skip;
+    let empty = shelf::new(asked.fixups);
     if count <= first {
-        let s = list::standard(pool, rows, shelf::new());
+        let s = list::standard(pool, rows, empty);
         book::write(pool, rows, s, skip);
     } else {
-        let s = operands(pool, rows, first, end, count);
+        let s = operands(pool, rows, empty, first, asked.end, count);
         book::write(pool, rows, s, skip);
     }
 }
 
-// What is asked for: a book of the arguments from the first on, where the options end; the help; or what is not known.
+// A book of the arguments from the first on, where the options end, with or without modules that are not whole; or their
+// fixups.
+struct Job {
+    first: usize,
+    end: usize,
+    skip: bool,
+    fixups: bool,
+}
+
+// What is asked for: the work; the help; or what is not known.
 enum Request {
-    Work(usize, usize, bool),
+    Work(Job),
     Help,
     Unknown(usize),
+}
+
+// The work on the arguments from one on.
+fn work_from(first: usize, end: usize, skip: bool, fixups: bool) -> Request {
+    Request::Work(Job {
+        first: first,
+        end: end,
+        skip: skip,
+        fixups: fixups,
+    })
 }
 
 // What the options before the names ask for.
 fn asked(count: usize) -> Request {
     let mut skip = false;
+    let mut fixups = false;
     let mut i = 1;
     while i < count {
         match word_at(i) {
             Word::Skip => {
                 skip = true;
             }
+            Word::Fixups => {
+                fixups = true;
+            }
             Word::End => {
-                return Request::Work(i + 1, 0, skip);
+                return work_from(i + 1, 0, skip, fixups);
             }
             Word::Name => {
-                return Request::Work(i, count, skip);
+                return work_from(i, count, skip, fixups);
             }
             Word::Help => {
                 return Request::Help;
@@ -134,13 +187,13 @@ fn asked(count: usize) -> Request {
         }
         i += 1;
     }
-    Request::Work(count, count, skip)
+    work_from(count, count, skip, fixups)
 }
 
 // Does what is asked for.
 fn answered(pool: &mut [u8], rows: &mut [u32], count: usize) {
     match asked(count) {
-        Request::Work(first, end, skip) => work(pool, rows, first, end, count, skip),
+        Request::Work(asked) => work(pool, rows, asked, count),
         Request::Help => told::help(),
         Request::Unknown(i) => {
             console::tell_option(i);

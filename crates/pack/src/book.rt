@@ -17,7 +17,7 @@ type Order = [u32; ENTRIES];
 // A name that stands twice, or no room.
 fn unwritten(pool: &[u8], rows: &[u32], number: u8, place: u32) {
     if number == 21 {
-        told::twice(book_order::given_name(pool, rows, place));
+        console::tell_words(book_order::given_name(pool, rows, place), b"stands twice");
     } else {
         told::full();
     }
@@ -30,7 +30,7 @@ fn put(out: &mut [u8], order: &mut [u32], pool: &[u8], rows: &[u32], n: u32) {
         Wrote::Refused { number, place } => unwritten(pool, rows, number, place),
         Wrote::Book { length } => {
             if !io::write_all(STDOUT_FILENO, sink::first_bytes(out, length)) {
-                told::unread(b"standard output");
+                console::tell_reason(b"standard output");
             }
         }
     }
@@ -43,6 +43,9 @@ fn put_whole(out: &mut Book, order: &mut Order, pool: &[u8], rows: &[u32], n: u3
 
 // Writes the book, unless a module was not taken and none may be left out.
 pub(crate) fn write(pool: &[u8], rows: &[u32], s: Shelf, skip: bool) {
+    if s.listing {
+        return;
+    }
     if s.full {
         told::full();
         told::nothing();

@@ -2,9 +2,9 @@
 use crate::module;
 use crate::shelf;
 use crate::shelf::Shelf;
-use crate::told;
 use bulk::Input;
 use console::Room;
+use rooms::INPUT_ROOM;
 
 // How many bytes the names on standard input may have.
 const NAMES: usize = 524288;
@@ -26,13 +26,13 @@ fn first(
 
 // The module that a descriptor gives.
 fn read(pool: &mut [u8], rows: &mut [u32], s: Shelf, fd: i32, shown: &[u8]) -> Shelf {
-    let mut room = [0u8; 65537];
+    let mut room = [0u8; INPUT_ROOM];
     match console::fill(fd, &mut room) {
-        console::Input::Failed => {
-            told::unread(shown);
+        Input::Failed => {
+            console::tell_reason(shown);
             shelf::spoilt(s)
         }
-        console::Input::Text(n) => first(pool, rows, s, &room, n, shown),
+        Input::Text(n) => first(pool, rows, s, &room, n, shown),
     }
 }
 
@@ -46,7 +46,7 @@ pub(crate) fn file(
 ) -> Shelf {
     let fd = os::open_read(file);
     if fd < 0 {
-        told::unread(shown);
+        console::tell_reason(shown);
         return shelf::spoilt(s);
     }
     let t = read(pool, rows, s, fd, shown);
@@ -114,9 +114,9 @@ pub(crate) fn standard(pool: &mut [u8], rows: &mut [u32], s: Shelf) -> Shelf {
 fn named(pool: &mut [u8], rows: &mut [u32], s: Shelf, names: &mut Names) -> Shelf {
     match bulk::fill(libc::STDIN_FILENO, names) {
         Input::Failed => {
-            told::unread(b"standard input");
+            console::tell_reason(b"standard input");
             shelf::spoilt(s)
         }
-        Input::Bytes(n) => lines(pool, rows, s, sink::first_bytes(names, n)),
+        Input::Text(n) => lines(pool, rows, s, sink::first_bytes(names, n)),
     }
 }

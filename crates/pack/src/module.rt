@@ -2,12 +2,15 @@
 use crate::name;
 use crate::shelf;
 use crate::shelf::Shelf;
-use crate::told;
 use crate::whole;
 use crate::whole::Whole;
 use kept_areas::Id;
 use reading::Answer;
 use reading::Counts;
+use rooms::AREA_ROOM;
+use rooms::FIXUP_ROOM;
+use rooms::IMAGE_ROOM;
+use rooms::SYMBOL_ROOM;
 
 // Area i, if it is kept.
 fn area(
@@ -56,13 +59,13 @@ fn areas_of(
 }
 
 // Room for every module: areas' rows, symbols' rows, positions, fixups' rows.
-const AREAS: usize = 448;
+const AREAS: usize = AREA_ROOM;
 
-const SYMBOLS: usize = 5120;
+const SYMBOLS: usize = SYMBOL_ROOM;
 
-const IMAGE: usize = 65536;
+const IMAGE: usize = IMAGE_ROOM;
 
-const FIXUPS: usize = 9216;
+const FIXUPS: usize = FIXUP_ROOM;
 
 // A module read by the ended reading.
 fn read(
@@ -93,21 +96,37 @@ pub(crate) fn add(pool: &mut [u8], rows: &mut [u32], s: Shelf, text: &[u8], show
     );
     match answer {
         Answer::Refusal { number, place } => {
-            told::refused(shown, cells::wide(number), place);
+            console::tell_number(shown, cells::wide(number), place);
             shelf::spoilt(s)
         }
         Answer::Accepted { counts, verdict } => match whole::judged(text, counts, verdict) {
             Whole::Stopped(place) => {
-                told::stopped(shown, place);
+                console::tell_place(shown, place);
                 shelf::spoilt(s)
             }
             Whole::Unequal => {
-                told::unequal(shown);
+                console::tell_words(shown, b"counts not equal");
                 shelf::spoilt(s)
             }
-            Whole::Yes => taken(pool, rows, s, shown, counts, &areas, &values, &masks),
+            Whole::Yes => {
+                if s.listing {
+                    return listed(s, text, shown, &fixups, counts.fixups);
+                }
+                taken(pool, rows, s, shown, counts, &areas, &values, &masks)
+            }
         },
     }
+}
+
+// The fixups of a whole module, listed, unless standard output takes no more.
+fn listed(s: Shelf, text: &[u8], shown: &[u8], fixups: &[u32; FIXUPS], n: usize) -> Shelf {
+    if s.full {
+        return s;
+    }
+    if fixup_list::tell_fixups(name::module(shown), text, fixups, n) {
+        return s;
+    }
+    shelf::over(s)
 }
 
 // The kept areas of a whole module.

@@ -11,21 +11,24 @@ pub type Pool = [u8; POOL];
 
 pub type Rows = [u32; ROWS];
 
-// How many bytes and entries wait, whether one found no room, and whether a module was not taken.
+// How many bytes and entries wait, whether one found no room, whether a module was not taken, and whether fixups are
+// listed instead.
 pub struct Shelf {
     pub used: usize,
     pub entries: u32,
     pub full: bool,
     pub bad: bool,
+    pub listing: bool,
 }
 
 // Nothing waits yet.
-pub(crate) fn new() -> Shelf {
+pub(crate) fn new(listing: bool) -> Shelf {
     Shelf {
         used: 0,
         entries: 0,
         full: false,
         bad: false,
+        listing: listing,
     }
 }
 
@@ -36,16 +39,18 @@ pub(crate) fn spoilt(s: Shelf) -> Shelf {
         entries: s.entries,
         full: s.full,
         bad: true,
+        listing: s.listing,
     }
 }
 
-// An entry found no room.
-fn over(s: Shelf) -> Shelf {
+// An entry found no room, or standard output took no more.
+pub(crate) fn over(s: Shelf) -> Shelf {
     Shelf {
         used: s.used,
         entries: s.entries,
         full: true,
         bad: s.bad,
+        listing: s.listing,
     }
 }
 
@@ -65,6 +70,7 @@ fn append(pool: &mut [u8], s: Shelf, bytes: &[u8]) -> Shelf {
         entries: s.entries,
         full: s.full,
         bad: s.bad,
+        listing: s.listing,
     }
 }
 
@@ -120,6 +126,7 @@ fn put_row(rows: &mut [u32], s: Shelf, name: usize, values: usize, masks: usize)
         entries: std::num::wrapping_add_u32(s.entries, 1),
         full: s.full,
         bad: s.bad,
+        listing: s.listing,
     }
 }
 

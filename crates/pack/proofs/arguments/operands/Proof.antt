@@ -8,7 +8,6 @@ use Rattle.pack.proofs.arguments.operands.Reads as reads
 use Rattle.pack.proofs.arguments.operands.Lts as lts
 use Rattle.console.proofs.operand_at.Reads as operand-at-reads
 use Rattle.pack.proofs.arguments.operand.Reads as operand-reads
-use Rattle.pack.proofs.shelf.new.Reads as new-reads
 use Rattle.sink.proofs.end_of.Reads as end-of-reads
 
 abbrev Inv-loop : tie.InvT-loop
@@ -16,9 +15,6 @@ Inv-loop pool₀ rows₀ first end count now₀ i₀ pool rows now i = (length p
 
 abbrev μ-loop : tie.MeasureT-loop
 μ-loop pool₀ rows₀ first end count now₀ i₀ pool rows now i = count - i
-
-new-requires : tie.Need-new-requires Inv-loop μ-loop
-new-requires c κs = search needs
 
 loop-holds : tie.Need-loop-holds Inv-loop μ-loop
 loop-holds c = search needs
@@ -56,7 +52,6 @@ operands-spec =
     (tie.spec
     Inv-loop
     μ-loop
-    new-requires
     loop-holds
     operand-at-requires
     operand-requires
