@@ -1,11 +1,10 @@
-// Tells of one position of a kept area which line wrote it last, and what: explain ID POSITION, with the module on standard input.
-mod answer;
+// Tells of one position of a kept area which line wrote it last, and what: explain [--lines] ID POSITION [FILE].
+mod source;
 mod told;
 
-use console::Input;
-use console::Room;
+use console::Request;
 use numbers::Num;
-use sink::Buffer;
+use position_lines::Asked;
 
 // A number that an argument gives: the whole word in a radix, or none.
 enum Given {
@@ -35,45 +34,56 @@ fn number_at(i: usize, radix: u8) -> Given {
     of_word(sink::first_bytes(&word, n), radix)
 }
 
-// Explains the position of the first n bytes of the room.
-fn explain_first(out: &mut Buffer, room: &Room, n: usize, id: u32, position: u32) {
-    answer::tell(out, sink::first_bytes(room, n), id, position)
-}
-
-// Explains a position of the module on standard input.
-fn explain_standard(id: u32, position: u32) {
-    let mut out = io::large_buffer();
-    let mut room = [0u8; 65537];
-    match console::fill(libc::STDIN_FILENO, &mut room) {
-        Input::Failed => told::failed(&out),
-        Input::Text(n) => explain_first(&mut out, &room, n, id, position),
+// Whether the first argument asks for the lines.
+fn asks_lines(count: usize) -> bool {
+    if count <= 1 {
+        return false;
     }
+    let mut word = [0u8; 8];
+    let n = os::arg(1, &mut word);
+    n == 7 && word[0] == b'-' && word[1] == b'-' && word[2] == b'l' && word[3] == b'i'
 }
 
-// Explains the position that two arguments give: an area's id, decimal, and a position in it, hex, as the listing has them.
-fn explain_given() {
-    let id = number_at(1, 10);
+// Explains what the arguments from one on give: an area's id, decimal, and a position in it, hex, as the listing has them; then perhaps a file.
+fn explain_given(first: usize, count: usize, lines: bool) {
+    let id = number_at(first, 10);
     let Given::Number(i) = id else {
         told::usage();
         return;
     };
-    let position = number_at(2, 16);
+    let position = number_at(sink::end_of(first, 1, count), 16);
     let Given::Number(p) = position else {
         told::usage();
         return;
     };
-    explain_standard(i, p)
+    let asked = Asked {
+        id: i,
+        position: p,
+        lines: lines,
+    };
+    source::explain_argument(asked, sink::end_of(first, 2, count), count)
+}
+
+// The same, where there are two or three of them.
+fn explain_from(first: usize, count: usize, lines: bool) {
+    if count <= sink::end_of(first, 1, usize::MAX) {
+        told::usage();
+        return;
+    }
+    if sink::end_of(first, 3, usize::MAX) < count {
+        told::usage();
+        return;
+    }
+    explain_given(first, count, lines)
 }
 
 fn main() {
     let count = os::arg_count();
-    if count == 2 && told::asks_help() {
-        told::help();
-        return;
+    let lines = asks_lines(count);
+    let first = if lines { 2 } else { 1 };
+    match console::asked_from(first, count) {
+        Request::Help => told::help(),
+        Request::Unknown(i) => told::unknown(i),
+        Request::Work(_) => explain_from(first, count, lines),
     }
-    if count != 3 {
-        told::usage();
-        return;
-    }
-    explain_given()
 }

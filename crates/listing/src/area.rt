@@ -3,6 +3,10 @@ use crate::fixup;
 use crate::symbol;
 use kept_areas::Id;
 use reading::Counts;
+use rooms::AREA_ROOM;
+use rooms::FIXUP_ROOM;
+use rooms::IMAGE_ROOM;
+use rooms::SYMBOL_ROOM;
 use sink::Buffer;
 use sink::Sink;
 
@@ -88,11 +92,11 @@ pub(crate) fn lines(
     out: &mut Buffer,
     text: &[u8],
     counts: Counts,
-    areas: &[u32; 448],
-    symbols: &[u32; 5120],
-    values: &[u8; 65536],
-    masks: &[u8; 65536],
-    fixups: &[u32; 9216],
+    areas: &[u32; AREA_ROOM],
+    symbols: &[u32; SYMBOL_ROOM],
+    values: &[u8; IMAGE_ROOM],
+    masks: &[u8; IMAGE_ROOM],
+    fixups: &[u32; FIXUP_ROOM],
 ) -> Sink {
     let mut now = s;
     let mut i = 0;

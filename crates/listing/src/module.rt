@@ -5,6 +5,10 @@ use crate::why;
 use counts_of::Counted;
 use ended::Verdict;
 use reading::Counts;
+use rooms::AREA_ROOM;
+use rooms::FIXUP_ROOM;
+use rooms::IMAGE_ROOM;
+use rooms::SYMBOL_ROOM;
 use sink::Buffer;
 use sink::Sink;
 
@@ -60,61 +64,11 @@ fn summary(s: Sink, out: &mut Buffer, counts: Counts) -> Sink {
     sink::put(s3, out, b"\n")
 }
 
-// The ended reading's verdict: whether a byte is left, where, and why.
-fn verdict_words(s: Sink, out: &mut Buffer, verdict: Verdict) -> Sink {
-    match verdict {
-        Verdict::Finished => sink::put(s, out, b"finished"),
-        Verdict::Stopped {
-            place,
-            reason,
-            halt: _,
-        } => {
-            let t = texts::decimal(s, out, b"stopped at ", place);
-            texts::decimal(t, out, b" reason ", reason as usize)
-        }
-    }
-}
-
-// The verdict, and whether the H line tells other counts.
-fn words(s: Sink, out: &mut Buffer, verdict: Verdict, counted: Counted) -> Sink {
-    let t = verdict_words(s, out, verdict);
-    match counted {
-        Counted::NotEqual => sink::put(t, out, b" not equal"),
-        _ => t,
-    }
-}
-
 // Where the plain reading of n bytes ended, in words that are no verdict.
 fn ending_line(s: Sink, out: &mut Buffer, place: usize, n: usize) -> Sink {
     let s1 = texts::decimal(s, out, b"plain reading ended at ", place);
     let s2 = texts::decimal(s1, out, b" of ", n);
     sink::put(s2, out, b"\n")
-}
-
-// Whether a module is whole: finished, and its counts not told otherwise.
-fn is_whole(verdict: Verdict, counted: Counted) -> bool {
-    match counted {
-        Counted::NotEqual => false,
-        _ => match verdict {
-            Verdict::Finished => true,
-            _ => false,
-        },
-    }
-}
-
-// Tells the words that wait in a buffer of their own.
-fn tell(s: Sink, out: &Buffer, name: &[u8], waits: Sink, line: &Buffer) -> Sink {
-    console::tell(s, out, name, sink::first_bytes(line, waits.used))
-}
-
-// Tells on standard error what the second line says of a module that is not whole.
-fn told(s: Sink, out: &Buffer, name: &[u8], verdict: Verdict, counted: Counted) -> Sink {
-    if is_whole(verdict, counted) {
-        return s;
-    }
-    let mut line = io::large_buffer();
-    let w = words(sink::new(), &mut line, verdict, counted);
-    tell(s, out, name, w, &line)
 }
 
 // The line at which the reading stopped, where it is asked for.
@@ -177,11 +131,11 @@ fn of_plain(answer: reading::Answer, n: usize) -> Given {
 fn read(
     ended: bool,
     text: &[u8],
-    areas: &mut [u32; 448],
-    symbols: &mut [u32; 5120],
-    values: &mut [u8; 65536],
-    masks: &mut [u8; 65536],
-    fixups: &mut [u32; 9216],
+    areas: &mut [u32; AREA_ROOM],
+    symbols: &mut [u32; SYMBOL_ROOM],
+    values: &mut [u8; IMAGE_ROOM],
+    masks: &mut [u8; IMAGE_ROOM],
+    fixups: &mut [u32; FIXUP_ROOM],
 ) -> Given {
     if ended {
         of_ended(ended::read_ended(text, areas, symbols, values, masks, fixups))
@@ -195,11 +149,11 @@ fn read(
 
 // A text's whole listing, and what standard error is told of a module of this name.
 pub(crate) fn list(how: How, s: Sink, out: &mut Buffer, text: &[u8], name: &[u8]) -> Sink {
-    let mut areas = [0u32; 448];
-    let mut symbols = [0u32; 5120];
-    let mut values = [0u8; 65536];
-    let mut masks = [0u8; 65536];
-    let mut fixups = [0u32; 9216];
+    let mut areas = [0u32; AREA_ROOM];
+    let mut symbols = [0u32; SYMBOL_ROOM];
+    let mut values = [0u8; IMAGE_ROOM];
+    let mut masks = [0u8; IMAGE_ROOM];
+    let mut fixups = [0u32; FIXUP_ROOM];
     let given = read(
         how.ended,
         text,
@@ -217,7 +171,7 @@ pub(crate) fn list(how: How, s: Sink, out: &mut Buffer, text: &[u8], name: &[u8]
             counted,
         } => {
             let s1 = summary(s, out, counts);
-            let s2 = words(s1, out, verdict, counted);
+            let s2 = verdict_words::words(s1, out, verdict, counted);
             let s3 = sink::put(s2, out, b"\n");
             let s4 = area::lines(
                 s3,
@@ -231,7 +185,7 @@ pub(crate) fn list(how: How, s: Sink, out: &mut Buffer, text: &[u8], name: &[u8]
                 &fixups,
             );
             let s5 = halted(how, s4, out, text, verdict);
-            told(s5, out, name, verdict, counted)
+            verdict_words::tell_unless_whole(s5, out, name, verdict, counted)
         }
         Given::Plain { counts, place } => {
             let s1 = summary(s, out, counts);

@@ -3,6 +3,7 @@ use crate::how::How;
 use crate::module;
 use console::Input;
 use console::Room;
+use rooms::INPUT_ROOM;
 use sink::Buffer;
 use sink::Sink;
 
@@ -22,7 +23,7 @@ fn title(s: Sink, out: &mut Buffer, name: &[u8], titled: bool) -> Sink {
 
 // Lists the text that a descriptor gives.
 fn list_input(how: How, s: Sink, out: &mut Buffer, fd: i32, name: &[u8], titled: bool) -> Sink {
-    let mut room = [0u8; 65537];
+    let mut room = [0u8; INPUT_ROOM];
     match console::fill(fd, &mut room) {
         Input::Failed => console::complain(s, out, name),
         Input::Text(n) => {

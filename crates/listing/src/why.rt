@@ -1,72 +1,6 @@
 // The line at which a module that is not whole came to a halt, and under it a caret with the reason in words.
-use shown_line::Window;
 use sink::Buffer;
 use sink::Sink;
-
-// So many blanks, up to 96.
-fn blanks(s: Sink, out: &mut Buffer, n: usize) -> Sink {
-    sink::put(
-        s,
-        out,
-        sink::first_bytes(
-            b"                                                                                                ",
-            n,
-        ),
-    )
-}
-
-// How many digits a number has in decimal.
-fn digits(n: usize) -> usize {
-    let mut text = [0u8; 20];
-    io::decimal(n as u64, &mut text)
-}
-
-// Two dots where a part of the line is left out.
-fn dots(s: Sink, out: &mut Buffer, left: bool) -> Sink {
-    if left {
-        return sink::put(s, out, b"..");
-    }
-    s
-}
-
-// How many bytes there are between two places.
-fn between(from: usize, to: usize) -> usize {
-    if from <= to {
-        return to - from;
-    }
-    0
-}
-
-// The line under its number, or the part of it that fits.
-fn line(s: Sink, out: &mut Buffer, text: &[u8], w: Window, number: usize) -> Sink {
-    let s1 = texts::decimal(s, out, b"", number);
-    let s2 = dots(sink::put(s1, out, b" | "), out, w.start < w.from);
-    let shown = row_parts::part(text, w.from, between(w.from, w.to));
-    let s3 = shown_line::put_safe(s2, out, shown);
-    let s4 = dots(s3, out, w.to < w.end);
-    sink::put(s4, out, b"\n")
-}
-
-// The caret under a place of the line.
-fn caret(s: Sink, out: &mut Buffer, w: Window, number: usize, place: usize) -> Sink {
-    let s1 = blanks(s, out, digits(number));
-    let s2 = sink::put(s1, out, b" | ");
-    let s3 = if w.start < w.from {
-        blanks(s2, out, 2)
-    } else {
-        s2
-    };
-    let s4 = blanks(s3, out, between(w.from, place));
-    sink::put(s4, out, b"^ ")
-}
-
-// The line at a place, and the caret under the place.
-fn shown(s: Sink, out: &mut Buffer, text: &[u8], place: usize) -> Sink {
-    let w = shown_line::shown_part(text, place);
-    let number = sink::end_of(shown_line::lines_before(text, place), 1, usize::MAX);
-    let s1 = line(s, out, text, w, number);
-    caret(s1, out, w, number, place)
-}
 
 // What a reason means.
 fn reason_words(s: Sink, out: &mut Buffer, reason: u8) -> Sink {
@@ -80,7 +14,7 @@ fn reason_words(s: Sink, out: &mut Buffer, reason: u8) -> Sink {
 
 // Why a reading stopped: the line with the halt, and the reason.
 pub(crate) fn stopped(s: Sink, out: &mut Buffer, text: &[u8], reason: u8, halt: usize) -> Sink {
-    let s1 = shown(s, out, text, halt);
+    let s1 = marked_line::marked(s, out, text, halt);
     let s2 = reason_words(s1, out, reason);
     if halt < text.len() {
         return sink::put(s2, out, b"\n");
@@ -136,7 +70,7 @@ pub(crate) fn refused(s: Sink, out: &mut Buffer, text: &[u8], number: u32, place
     let s1 = if of_the_whole(number) {
         s
     } else {
-        shown(s, out, text, place)
+        marked_line::marked(s, out, text, place)
     };
     let s2 = texts::decimal(s1, out, b"refused ", cells::wide(number));
     let s3 = sink::put(s2, out, b": ");

@@ -15,7 +15,6 @@ use Rattle.format.specs.Placing.{extent}
 use Rattle.format.specs.Records.{Taken}
 use Rattle.format.specs.Tables.{Area, Tables, offset, rank, total}
 use Rattle.laws.specs.Rows.{areasIn}
-use Rattle.mode.specs.Class.{classTable}
 use Rattle.homes.specs.declared.Home.{Home}
 use Rattle.homes.specs.Home.{homeBy}
 use Rattle.last_writer.specs.LastWriter.{Span, lastWriter, positionIn, spanFrom, writerOf}
@@ -23,36 +22,32 @@ use Rattle.one_position.specs.declared.Explained.{Explained}
 use Rattle.one_position.specs.declared.Explained.the-variants.{Refused}
 use Rattle.one_position.specs.Pair.{Asked}
 use Rattle.one_position.specs.Back.{LastIs, RowsAre, told}
-use Rattle.one_position.specs.Homed.{Homed, HomeIs}
+use Rattle.position_home.specs.Homed.{homeFor, HomeForIs}
+use Rattle.position_home.proofs.Use.{the-home-for}
 use Rattle.one_position.specs.Answer.{Held, AnswerIs}
 
-module _ (areas : List ℕ) (n : ℕ) (pairs content fragments : List ℕ) (many : ℕ) (big : Bool) (width id position : ℕ) {h : Home} (w : HomeIs areas n id h) where
-  -- no kept area has the id
+module _ (areas : List ℕ) (n : ℕ) (pairs content fragments : List ℕ) (many : ℕ) (big : Bool) (width id position : ℕ) (few : n ≤ 64) {h : Home} (e : h ≡ homeFor areas n id position) where
+  home-is : HomeForIs areas n id position h
+  home-is = the-home-for areas n id position few e
+
+  -- no kept area has the id, or its image ends before the position
   pub answer-none : h .id ≡ 0 → AnswerIs areas n pairs content fragments many big width id position (Refused 20 0)
   unfolding writerOf
-  answer-none e = record { answer = λ fm t qs k r. rw (← k .areas-are, w .missing e) }
+  answer-none z = record { answer = λ fm t qs k r. rw (← k .areas-are, home-is .twenty z) }
 
   module _ (f : h .id ≡ 0 → ⊥) where
     size-is : h .size ≡ extent (areasIn areas n) (h .area)
-    size-is = ap (λ (x : Home). x .size) (w .present f .home)
-
-    -- its image ends before the position
-    pub answer-past : h .size ≤ position → AnswerIs areas n pairs content fragments many big width id position (Refused 20 0)
-    unfolding writerOf
-    answer-past l = record {
-      answer = λ fm t qs k r. rw (← k .areas-are, w .present f .span, le-ltb position (extent (areasIn areas n) (h .area)) (omega (arith, size-is)));
-    }
+    size-is = ap (λ (x : Home). x .size) (home-is .present f .home)
 
     -- the last that wrote it
-    pub answer-last : position < h .size → {table : List ℕ} → table ≡ classTable → {s : Explained} → LastIs table pairs content fragments many big width h position s
+    pub answer-last : {s : Explained} → LastIs pairs content fragments many big width h position s
         → AnswerIs areas n pairs content fragments many big width id position s
     unfolding writerOf
-    answer-last l {table} et {s} a = record {
+    answer-last {s} a = record {
       answer = λ fm t qs k r.
-          let inside : position < extent (areasIn areas n) (h .area) = omega (arith, size-is) in
-          let p = w .present f in
-          let asked : Asked fm t (h .area) table big width h = record {
-            classes = et;
+          let inside : position < extent (areasIn areas n) (h .area) = omega (arith, size-is, home-is .inside f) in
+          let p = home-is .present f in
+          let asked : Asked fm t (h .area) big width h = record {
             order = k .order;
             address = k .address;
             narrow = k .narrow;
@@ -66,4 +61,4 @@ module _ (areas : List ℕ) (n : ℕ) (pairs content fragments : List ℕ) (many
           found ∙ rw (span, lt-ltb position (extent (t .areas) (h .area)) (rw (k .areas-are) at inside));
     }
 
-pub ruleset answering = (needs, answer-none, answer-past, answer-last)
+pub ruleset answering = (needs, answer-none, answer-last)

@@ -19,10 +19,10 @@ use Rattle.order.specs.Writes.{Cell, cellAt, writes}
 use Rattle.homes.specs.declared.Home.{Home}
 use Rattle.last_writer.specs.LastWriter.{Found, firstOf, firstWriter, foundBy, foundIn, lastWriter}
 use Rattle.last_writer.proofs.Seek.{seek-pair, seek-no-pair}
-use Rattle.place.specs.Cell.{Left}
-use Rattle.place.specs.Cell as cells
-use Rattle.place.specs.declared.cell.Cell as code
-use Rattle.place.specs.declared.cell.Cell.the-variants.{Byte, Nothing, Beyond, Misfit}
+use Rattle.one_cell.specs.Cell.{Left}
+use Rattle.one_cell.specs.Cell as cells
+use Rattle.one_cell.specs.declared.Cell as code
+use Rattle.one_cell.specs.declared.Cell.the-variants.{Byte, Nothing, Beyond, Misfit}
 use Rattle.record_rows.specs.RecordRows.{pairColumns}
 use Rattle.one_position.specs.declared.Explained.{Explained}
 use Rattle.one_position.specs.declared.Explained.the-variants.{Unwritten, Wrote}
@@ -31,13 +31,13 @@ use Rattle.one_position.specs.Back.{told, isByte, foundOf, noPair, RowIs
 use Rattle.one_position.proofs.PairLaws.{the-place}
 
 -- no pair from the k-th on writes the position
-pub record Backing (table pairs content fragments : List ℕ) (n : ℕ) (big : Bool) (width : ℕ) (h : Home) (want k : ℕ) : Type 0 where
+pub record Backing (pairs content fragments : List ℕ) (n : ℕ) (big : Bool) (width : ℕ) (h : Home) (want k : ℕ) : Type 0 where
   pub inside : k ≤ n
-  pub rest : (fm : Form) (t : Tables) (a : ℕ) (qs : List (Taken Pair)) → Asked fm t a table big width h → RowsAre fm t pairs content fragments n qs → want < extent (t .areas) a
+  pub rest : (fm : Form) (t : Tables) (a : ℕ) (qs : List (Taken Pair)) → Asked fm t a big width h → RowsAre fm t pairs content fragments n qs → want < extent (t .areas) a
       → lastWriter fm t qs (offset (t .areas) a + want) ≡ lastWriter fm t (take k qs) (offset (t .areas) a + want)
 
-module _ (table pairs content fragments : List ℕ) (n : ℕ) (big : Bool) (width : ℕ) (h : Home) (want : ℕ) where
-  pub back-start : Backing table pairs content fragments n big width h want n
+module _ (pairs content fragments : List ℕ) (n : ℕ) (big : Bool) (width : ℕ) (h : Home) (want : ℕ) where
+  pub back-start : Backing pairs content fragments n big width h want n
   back-start = record {
     inside = omega arith;
     rest = λ fm t a qs q w l. ap (λ (ps : List (Taken Pair)). lastWriter fm t ps (offset (t .areas) a + want)) (sym (take-all n qs (omega (arith, w .many))));
@@ -71,8 +71,8 @@ comes-first Nothing v b o rest e = absurd (false≢true b)
 comes-first Beyond v b o rest e = absurd (false≢true b)
 comes-first Misfit v b o rest e = absurd (false≢true b)
 
-module _ {table pairs content fragments : List ℕ} {n : ℕ} {big : Bool} {width : ℕ} {h : Home} {want k : ℕ} (w : Backing table pairs content fragments n big width h want k) where
-  pub back-end : k ≤ 0 → LastIs table pairs content fragments n big width h want Unwritten
+module _ {pairs content fragments : List ℕ} {n : ℕ} {big : Bool} {width : ℕ} {h : Home} {want k : ℕ} (w : Backing pairs content fragments n big width h want k) where
+  pub back-end : k ≤ 0 → LastIs pairs content fragments n big width h want Unwritten
   back-end z = record {
     last = λ fm t a qs q r l.
         let e : k ≡ 0 = omega arith in
@@ -82,29 +82,29 @@ module _ {table pairs content fragments : List ℕ} {n : ℕ} {big : Bool} {widt
   pub back-low : 0 < k → n ≤ 4096 → 7 * (k - 1) ≤ 28672
   back-low z m = omega (arith, w .inside)
 
-  module _ (z : 0 < k) {c : code.Cell} (x : Tells table pairs content fragments (7 * (k - 1)) big width h want c) {b : Bool} (eb : b ≡ isByte c) where
+  module _ (z : 0 < k) {c : code.Cell} (x : Tells pairs content fragments (7 * (k - 1)) big width h want c) {b : Bool} (eb : b ≡ isByte c) where
     -- the pair before the k-th, asked before those in front of it
-    step : (fm : Form) (t : Tables) (a : ℕ) (qs : List (Taken Pair)) → Asked fm t a table big width h → RowsAre fm t pairs content fragments n qs → want < extent (t .areas) a
+    step : (fm : Form) (t : Tables) (a : ℕ) (qs : List (Taken Pair)) → Asked fm t a big width h → RowsAre fm t pairs content fragments n qs → want < extent (t .areas) a
         → lastWriter fm t qs (offset (t .areas) a + want) ≡ firstOf (foundBy fm t (getD qs (k - 1) noPair) (offset (t .areas) a + want)) (lastWriter fm t (take (k - 1) qs) (offset (t .areas) a + want))
     step fm t a qs q r l =
         let e : k ≡ suc (k - 1) = omega arith in
         w .rest fm t a qs q r l ∙ (ap (λ (m : ℕ). lastWriter fm t (take m qs) (offset (t .areas) a + want)) e ∙ seek-pair fm t qs (k - 1) (offset (t .areas) a + want) noPair (omega (arith, w .inside, r .many)))
 
-    asked : (fm : Form) (t : Tables) (a : ℕ) (qs : List (Taken Pair)) → Asked fm t a table big width h → (r : RowIs fm t pairs content fragments qs (k - 1)) → want < extent (t .areas) a
+    asked : (fm : Form) (t : Tables) (a : ℕ) (qs : List (Taken Pair)) → Asked fm t a big width h → (r : RowIs fm t pairs content fragments qs (k - 1)) → want < extent (t .areas) a
         → (isByte c ≡ true → told (foundOf c (getD pairs (7 * (k - 1)) 0)) ≡ fine (foundBy fm t (getD qs (k - 1) noPair) (offset (t .areas) a + want)))
         × (isByte c ≡ false → foundBy fm t (getD qs (k - 1) noPair) (offset (t .areas) a + want) ≡ none)
     asked fm t a qs q r l =
         let s : Stands pairs content fragments (7 * (k - 1)) (r .place) (r .content-is) (r .relocation) = r .stands in
         rw (r .is, the-place s) (found-by fm t (r .place) (r .content-is) (r .relocation) (offset (t .areas) a + want) c (x .tells fm t a (r .place) (r .content-is) (r .relocation) q s (r .sound) l))
 
-    pub back-found : b ≡ true → {v : ℕ} → v ≡ getD pairs (7 * (k - 1)) 0 → {s : Explained} → s ≡ foundOf c v → LastIs table pairs content fragments n big width h want s
+    pub back-found : b ≡ true → {v : ℕ} → v ≡ getD pairs (7 * (k - 1)) 0 → {s : Explained} → s ≡ foundOf c v → LastIs pairs content fragments n big width h want s
     back-found f ev es = record {
       last = λ fm t a qs q r l.
           let g = asked fm t a qs q (r .each (k - 1) (omega (arith, w .inside))) l in
           rw (es, ev, step fm t a qs q r l) (comes-first c (getD pairs (7 * (k - 1)) 0) (sym eb ∙ f) _ _ (g .0 (sym eb ∙ f)));
     }
 
-    pub back-on : b ≡ false → Backing table pairs content fragments n big width h want (k - 1)
+    pub back-on : b ≡ false → Backing pairs content fragments n big width h want (k - 1)
     back-on f = record {
       inside = omega (arith, w .inside);
       rest = λ fm t a qs q r l.

@@ -20,8 +20,8 @@ use Rattle.format.specs.Tables.{Tables, lastIndex, offset, rank}
 use Rattle.format.specs.WorkLine.{fresh, inLine, stepAll}
 use Rattle.laws.specs.PairRows.{walkOf}
 use Rattle.order.specs.Writes.{Cell, cellAt, cellOf, cellsIn, cellsOf, writes}
-use Rattle.place.specs.Cell.{Left, leftAt, leftBy, siteWork}
-use Rattle.place.specs.Pair.{formOf, contentOf}
+use Rattle.one_cell.specs.Cell.{Left, leftAt, leftBy, siteWork}
+use Rattle.work.specs.Work.{formOf, contentOf}
 use Rattle.sites.specs.declared.Line.{Line}
 use Rattle.sites.specs.Columns.{fragmentsIn}
 use Rattle.one_position.specs.Pair.{leftOf}

@@ -1,7 +1,6 @@
 pub mod Cells
 pub mod PairLaws
 pub mod BackLaws
-pub mod HomeLaws
 pub mod AnswerLaws
 pub mod Rows
 pub mod ExplainLaws

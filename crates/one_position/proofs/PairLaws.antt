@@ -24,17 +24,16 @@ use Rattle.laws.specs.PairRows.{walkOf}
 use Rattle.laws.specs.Rows.{from}
 use Rattle.order.specs.Writes.{Cell, cellAt, cellsOf, writes, written, wrote}
 use Rattle.order.proofs.Areas.{Inside, ends-inside, a-pair-writes-inside-its-area, never-both}
-use Rattle.classes.proofs.Named.{table-names}
 use Rattle.homes.specs.declared.Home.{Home}
 use Rattle.homes.specs.Home.{homeBy}
 use Rattle.sites.specs.declared.Line.{Line}
 use Rattle.sites.specs.Site.{lineFits}
 use Rattle.sites.specs.Columns.{fragmentsIn}
-use Rattle.place.specs.Site.{imageFits}
-use Rattle.place.specs.Pair.{formOf, contentOf, keptFits}
-use Rattle.place.specs.Cell.{Left, leftAt, leftBy, leftIn, siteWork, told, cellFits, CellIs}
-use Rattle.place.specs.declared.cell.Cell as code
-use Rattle.place.specs.declared.cell.Cell.the-variants.{Nothing, Misfit}
+use Rattle.located.specs.Site.{imageFits, keptFits}
+use Rattle.work.specs.Work.{formOf, contentOf}
+use Rattle.one_cell.specs.Cell.{Left, leftAt, leftBy, leftIn, siteWork, told, cellFits, CellIs}
+use Rattle.one_cell.specs.declared.Cell as code
+use Rattle.one_cell.specs.declared.Cell.the-variants.{Nothing, Misfit}
 use Rattle.record_rows.specs.RecordRows.{fragmentColumns, pairColumns}
 use Rattle.record_parts.specs.Parts.{fragmentFrom, pairFrom}
 use Rattle.record_parts.specs.Columns.{lineFrom, Three}
@@ -43,10 +42,10 @@ use Rattle.one_position.specs.Pair.{leftOf, leftFrom, Asked, Fair, LeftB
 use Rattle.one_position.proofs.Cells.{left-is-a-cell}
 
 -- `by_rows`
-module _ (table : List ℕ) (l : Line) (h : Home) (bs fragments : List ℕ) (row want : ℕ) where
-  fits-fair : (ms : List ℕ) → Fair table l h bs → cellFits table l h bs ms ≡ true
+module _ (l : Line) (h : Home) (bs fragments : List ℕ) (row want : ℕ) where
+  fits-fair : Fair l h bs → cellFits l h bs ≡ true
   unfolding cellFits lineFits imageFits
-  fits-fair ms f =
+  fits-fair f =
       rw (
         eq-eqb (h .area) (l .area) (f .area),
         le-leb (l .width) 4 (f .narrow),
@@ -55,8 +54,6 @@ module _ (table : List ℕ) (l : Line) (h : Home) (bs fragments : List ℕ) (row
         le-leb (l .fragments) 64 (f .fragments),
         f .ranked,
         le-leb (h .start + h .size) 65536 (f .sizes),
-        f .classes,
-        table-names ms 0 (l .fragments),
       )
 
   left-rows : (ms es xs : List ℕ) (radix : ℕ) → leftBy l (h .size) bs ms es xs radix want ≡ leftFrom l (h .size) bs (fragmentsIn ms es xs (l .fragments)) radix want
@@ -64,12 +61,12 @@ module _ (table : List ℕ) (l : Line) (h : Home) (bs fragments : List ℕ) (row
   left-rows ms es xs radix = refl
 
   pub rows-left : {ms₀ es₀ xs₀ ms es xs : List ℕ} → length ms₀ ≡ 64 → length es₀ ≡ 64 → length xs₀ ≡ 64 → Three fragments row (min (l .fragments) 64) ms₀ es₀ xs₀ ms es xs
-      → {r : code.Cell} → CellIs table l h bs ms es want r → LeftBy table l h bs fragments row want r
+      → {r : code.Cell} → CellIs l h bs ms es want r → LeftBy l h bs fragments row want r
   rows-left {ms₀} {es₀} {xs₀} {ms} {es} {xs} lm le lx t a = record {
     says = λ f k radix e.
         let t′ : Three fragments (fragmentColumns * k) (min (l .fragments) 64) ms₀ es₀ xs₀ ms es xs = rw e at t in
         let fs : fragmentsIn ms es xs (l .fragments) ≡ from (fragmentFrom fragments) k (l .fragments) = columns-hold fragments k (l .fragments) t′ (f .fragments) lm le lx in
-        a .says xs radix ∙ (rw (fits-fair ms f, f .ranked) (ap some (left-rows ms es xs radix)) ∙ ap (λ (x : List Fragment). some (leftFrom l (h .size) bs x radix want)) fs);
+        a .says xs radix ∙ (rw (fits-fair f, f .ranked) (ap some (left-rows ms es xs radix)) ∙ ap (λ (x : List Fragment). some (leftFrom l (h .size) bs x radix want)) fs);
   }
 
 pub ruleset by-rows = (needs, rows-left)
@@ -138,13 +135,13 @@ unfolding lineFrom
 line-by fm place c r big width b w s f =
     λ j. record { big = b j; width = w j; place = the-place s j; address = the-address s j; bytes = s .counted j; fragments = f j; area = the-area s j }
 
-module _ (table pairs content fragments : List ℕ) (p : ℕ) (big : Bool) (width : ℕ) (h : Home) (want : ℕ) {line : Line} (el : line ≡ lineFrom pairs p big width) where
+module _ (pairs content fragments : List ℕ) (p : ℕ) (big : Bool) (width : ℕ) (h : Home) (want : ℕ) {line : Line} (el : line ≡ lineFrom pairs p big width) where
   line-area : line .area ≡ getD pairs (p + 2) 0
   unfolding lineFrom
   line-area = ap (λ (x : Line). x .area) el
 
   -- a pair of another area
-  pub tells-elsewhere : (line .area ≡ h .area → ⊥) → Tells table pairs content fragments p big width h want Nothing
+  pub tells-elsewhere : (line .area ≡ h .area → ⊥) → Tells pairs content fragments p big width h want Nothing
   tells-elsewhere n = record {
     tells = λ fm t a place c r q s o l.
         let other : r .area ≡ a → ⊥ = λ e. n (line-area ∙ (the-area s ∙ (e ∙ sym (ap (λ (x : Home). x .area) (q .home))))) in
@@ -159,15 +156,15 @@ module _ (table pairs content fragments : List ℕ) (p : ℕ) (big : Bool) (widt
     eb = ev′ ∙ ev
 
     -- its bytes do not lie in the content
-    pub tells-misfit : length content < end → Tells table pairs content fragments p big width h want Misfit
+    pub tells-misfit : length content < end → Tells pairs content fragments p big width h want Misfit
     tells-misfit n = record { tells = λ fm t a place c r q s o l. absurd (misplaced s) }
       where
         misplaced : {place : ℕ} {c : Content} {r : Relocation} → Stands pairs content fragments p place c r → ⊥
         misplaced s = omega (arith, s .inside, ef, eb)
 
     -- a pair of the area
-    pub tells-here : end ≤ length content → {k row w : ℕ} → w ≡ getD pairs (p + 5) 0 → k ≡ w → row ≡ 3 * k → {x : code.Cell} → LeftBy table line h (take (end - first) (drop first content)) fragments row want x
-        → Tells table pairs content fragments p big width h want x
+    pub tells-here : end ≤ length content → {k row w : ℕ} → w ≡ getD pairs (p + 5) 0 → k ≡ w → row ≡ 3 * k → {x : code.Cell} → LeftBy line h (take (end - first) (drop first content)) fragments row want x
+        → Tells pairs content fragments p big width h want x
     tells-here n {k} {row} ew ek′ er {x} a = record {
       tells = λ fm t i place c r q s o l.
           let ek : k ≡ getD pairs (p + 5) 0 = ek′ ∙ ew in
@@ -178,10 +175,10 @@ module _ (table pairs content fragments : List ℕ) (p : ℕ) (big : Bool) (widt
           let bytes-are : bs ≡ c .bytes = rw (many, ← s .counted, ef) (the-bytes s) in
           let line-is : line ≡ lineBy fm place c r = el ∙ line-by fm place c r big width (q .order) (q .address) s few in
           let area-is : r .area ≡ i = sym (the-area s) ∙ (sym line-area ∙ (same ∙ ap (λ (y : Home). y .area) (q .home))) in
-          let b : LeftBy table (lineBy fm place c r) h bs fragments row want x = subst (λ (y : Line). LeftBy table y h bs fragments row want x) line-is a in
+          let b : LeftBy (lineBy fm place c r) h bs fragments row want x = subst (λ (y : Line). LeftBy y h bs fragments row want x) line-is a in
           let ranked : rank 0 (t .areas) (r .area) ≡ some (q .id) = ap (λ (y : ℕ). rank 0 (t .areas) y) area-is ∙ q .ranked in
           let in-line = o .in-line (q .id) ranked in
-          let f : Fair table (lineBy fm place c r) h bs = fair fm t i place c r q o area-is bs bytes-are in
+          let f : Fair (lineBy fm place c r) h bs = fair fm t i place c r q o area-is bs bytes-are in
           b .says f k (fm .radix) er
           ∙ (ap (λ (y : List Fragment). some (leftFrom (lineBy fm place c r) (h .size) bs y (fm .radix) want)) (ap (λ (y : ℕ). from (fragmentFrom fragments) k y) (sym few) ∙ fs)
           ∙ (ap (λ (y : ℕ). some (leftFrom (lineBy fm place c r) y bs (r .fragments) (fm .radix) want)) (ap (λ (y : Home). y .size) (q .home) ∙ ap (λ (y : ℕ). extent (t .areas) y) (sym area-is))
@@ -189,10 +186,9 @@ module _ (table pairs content fragments : List ℕ) (p : ℕ) (big : Bool) (widt
           ∙ ap (λ (y : ℕ). some (fine (leftOf (cellAt (writes fm t (record { place = place; end = 0; body = placed c r })) (offset (t .areas) y + want))))) area-is)));
     }
       where
-        fair : (fm : Form) (t : Tables) (i place : ℕ) (c : Content) (r : Relocation) → Asked fm t i table big width h → Sound fm t place c r → r .area ≡ i → (bs : List ℕ) → bs ≡ c .bytes
-            → Fair table (lineBy fm place c r) h bs
+        fair : (fm : Form) (t : Tables) (i place : ℕ) (c : Content) (r : Relocation) → Asked fm t i big width h → Sound fm t place c r → r .area ≡ i → (bs : List ℕ) → bs ≡ c .bytes
+            → Fair (lineBy fm place c r) h bs
         fair fm t i place c r q o e bs d = record {
-          classes = q .classes;
           area = ap (λ (y : Home). y .area) (q .home) ∙ sym e;
           narrow = omega (arith, q .narrow, q .address);
           content = o .few-bytes;

@@ -14,8 +14,8 @@ use Rattle.format.specs.Records.{Taken}
 use Rattle.format.specs.Tables.{Tables, offset}
 use Rattle.homes.specs.declared.Home.{Home}
 use Rattle.last_writer.specs.LastWriter.{Found, lastWriter}
-use Rattle.place.specs.declared.cell.Cell.{Cell}
-use Rattle.place.specs.declared.cell.Cell.the-variants.{Byte, Nothing, Beyond, Misfit}
+use Rattle.one_cell.specs.declared.Cell.{Cell}
+use Rattle.one_cell.specs.declared.Cell.the-variants.{Byte, Nothing, Beyond, Misfit}
 use Rattle.record_rows.specs.RecordRows.{pairColumns}
 use Rattle.one_position.specs.declared.Explained.{Explained}
 use Rattle.one_position.specs.declared.Explained.the-variants.{Refused, Unwritten, Wrote}
@@ -58,6 +58,6 @@ pub record RowsAre (fm : Form) (t : Tables) (pairs content fragments : List ℕ)
   pub each : (k : ℕ) → k < n → RowIs fm t pairs content fragments qs k
 
 -- the last of the pairs that writes the position
-pub record LastIs (table pairs content fragments : List ℕ) (n : ℕ) (big : Bool) (width : ℕ) (h : Home) (want : ℕ) (r : Explained) : Type 0 where
-  pub last : (fm : Form) (t : Tables) (a : ℕ) (qs : List (Taken Pair)) → Asked fm t a table big width h → RowsAre fm t pairs content fragments n qs → want < extent (t .areas) a
+pub record LastIs (pairs content fragments : List ℕ) (n : ℕ) (big : Bool) (width : ℕ) (h : Home) (want : ℕ) (r : Explained) : Type 0 where
+  pub last : (fm : Form) (t : Tables) (a : ℕ) (qs : List (Taken Pair)) → Asked fm t a big width h → RowsAre fm t pairs content fragments n qs → want < extent (t .areas) a
       → told r ≡ fine (lastWriter fm t qs (offset (t .areas) a + want))

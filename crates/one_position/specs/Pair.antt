@@ -13,14 +13,13 @@ use Rattle.format.specs.Placing.{extent}
 use Rattle.format.specs.Tables.{Tables, lastIndex, offset, rank, total}
 use Rattle.format.specs.WorkLine.{fresh, inLine, stepAll}
 use Rattle.laws.specs.Rows.{from}
-use Rattle.mode.specs.Class.{classTable}
 use Rattle.order.specs.Writes.{Cell, cellAt, writes}
 use Rattle.homes.specs.declared.Home.{Home}
 use Rattle.homes.specs.Home.{homeBy}
-use Rattle.place.specs.Cell.{Left, leftAt, told}
-use Rattle.place.specs.Pair.{formOf}
+use Rattle.one_cell.specs.Cell.{Left, leftAt, told}
+use Rattle.work.specs.Work.{formOf}
 use Rattle.sites.specs.declared.Line.{Line}
-use Rattle.place.specs.declared.cell.Cell as code
+use Rattle.one_cell.specs.declared.Cell as code
 use Rattle.record_rows.specs.RecordRows.{fragmentColumns, pairColumns}
 use Rattle.record_parts.specs.Parts.{fragmentFrom, pairFrom}
 
@@ -30,8 +29,7 @@ leftOf none = none
 leftOf (some c) = some (record { value = c .value; mask = c .mask })
 
 -- what is known of the question: the header's order and address length, and the home of the area that is asked about
-pub record Asked (fm : Form) (t : Tables) (a : ℕ) (table : List ℕ) (big : Bool) (width : ℕ) (h : Home) : Type 0 where
-  pub classes : table ≡ classTable
+pub record Asked (fm : Form) (t : Tables) (a : ℕ) (big : Bool) (width : ℕ) (h : Home) : Type 0 where
   pub order : big ≡ fm .big
   pub address : width ≡ fm .addressLength
   pub narrow : width ≤ 4
@@ -58,8 +56,7 @@ leftFrom l size bs fs radix want =
     fine (leftAt size (stepAll (formOf radix l) fs (fresh (l .width) (take (l .bytes) bs)) .work) (l .width + l .bytes) 0 (l .address) want))
 
 -- a pair's numbers fit together with the home of its area
-pub record Fair (table : List ℕ) (l : Line) (h : Home) (bs : List ℕ) : Type 0 where
-  pub classes : table ≡ classTable
+pub record Fair (l : Line) (h : Home) (bs : List ℕ) : Type 0 where
   pub area : h .area ≡ l .area
   pub narrow : l .width ≤ 4
   pub content : l .bytes ≤ 256
@@ -70,8 +67,8 @@ pub record Fair (table : List ℕ) (l : Line) (h : Home) (bs : List ℕ) : Type 
   pub ranked : lastIndex (h .id) ≡ some id
 
 -- a pair's bytes, and the rows of its fragments from a place on
-pub record LeftBy (table : List ℕ) (l : Line) (h : Home) (bs fragments : List ℕ) (row want : ℕ) (r : code.Cell) : Type 0 where
-  pub says : Fair table l h bs → (k radix : ℕ) → row ≡ fragmentColumns * k → told (l .place) r ≡ some (leftFrom l (h .size) bs (from (fragmentFrom fragments) k (l .fragments)) radix want)
+pub record LeftBy (l : Line) (h : Home) (bs fragments : List ℕ) (row want : ℕ) (r : code.Cell) : Type 0 where
+  pub says : Fair l h bs → (k radix : ℕ) → row ≡ fragmentColumns * k → told (l .place) r ≡ some (leftFrom l (h .size) bs (from (fragmentFrom fragments) k (l .fragments)) radix want)
 
 -- the row at a place stands for a pair, whose bytes lie in the content
 pub record Stands (pairs content fragments : List ℕ) (p place : ℕ) (c : Content) (r : Relocation) : Type 0 where
@@ -82,7 +79,7 @@ pub record Stands (pairs content fragments : List ℕ) (p place : ℕ) (c : Cont
   pub counted : getD pairs (p + 4) 0 ≡ length (c .bytes)
 
 -- what the pair at a row leaves at a position of the area that is asked about; its place in the images is counted from the first kept area's first byte
-pub record Tells (table : List ℕ) (pairs content fragments : List ℕ) (p : ℕ) (big : Bool) (width : ℕ) (h : Home) (want : ℕ) (r : code.Cell) : Type 0 where
-  pub tells : (fm : Form) (t : Tables) (a place : ℕ) (c : Content) (l : Relocation) → Asked fm t a table big width h → Stands pairs content fragments p place c l → Sound fm t place c l
+pub record Tells (pairs content fragments : List ℕ) (p : ℕ) (big : Bool) (width : ℕ) (h : Home) (want : ℕ) (r : code.Cell) : Type 0 where
+  pub tells : (fm : Form) (t : Tables) (a place : ℕ) (c : Content) (l : Relocation) → Asked fm t a big width h → Stands pairs content fragments p place c l → Sound fm t place c l
       → want < extent (t .areas) a
       → told place r ≡ some (fine (leftOf (cellAt (writes fm t (record { place = place; end = 0; body = placed c l })) (offset (t .areas) a + want))))

@@ -3,7 +3,7 @@ ghost use Prim.Native.Nat.{_≤_};
 ghost use Rattle.one_position.specs.Answer.{AnswerIs};
 use crate::Explained;
 use crate::back::last_of;
-use crate::home::home_with;
+use position_home::home_for;
 
 // 20 where no kept area has the id or the position lies outside of it; else who wrote it last.
 pub(crate) fn answer(
@@ -21,29 +21,12 @@ pub(crate) fn answer(
     requires { ⌜ (n ≤ 64) × (many ≤ 4096) ⌝ }
     ensures { λ r. ⌜ AnswerIs (now (areas .entry)) n (now (pairs .entry)) (now (content .entry)) (now (fragments .entry)) many big width id position r ⌝ }
 {
-    let home = home_with(areas, n, id);
+    let home = home_for(areas, n, id, position);
     if home.id == 0 {
         return Explained::Refused {
             number: 20,
             place: 0,
         };
     }
-    if home.size <= position {
-        return Explained::Refused {
-            number: 20,
-            place: 0,
-        };
-    }
-    let table = mode::class_table();
-    last_of(
-        &table,
-        pairs,
-        content,
-        fragments,
-        many,
-        big,
-        width,
-        home,
-        position,
-    )
+    last_of(pairs, content, fragments, many, big, width, home, position)
 }

@@ -6,7 +6,8 @@ use crate::Explained;
 use crate::pair::pair_tells;
 use cells::at;
 use homes::Home;
-use place::Cell;
+use one_cell::Cell;
+use rooms::PAIR_WIDTH;
 
 // Whether a pair writes there.
 fn is_byte(c: Cell) -> bool
@@ -38,7 +39,6 @@ fn found(c: Cell, place: u32) -> Explained
 
 // The rows of n pairs from the last on.
 pub(crate) fn last_of(
-    table: &[u8; 2048],
     pairs: &[u32],
     content: &[u8],
     fragments: &[u32],
@@ -49,13 +49,13 @@ pub(crate) fn last_of(
     want: u32,
 ) -> Explained
     requires { ⌜ n ≤ 4096 ⌝ }
-    ensures { λ r. ⌜ LastIs (now (table .entry)) (now (pairs .entry)) (now (content .entry)) (now (fragments .entry)) n big width home want r ⌝ }
+    ensures { λ r. ⌜ LastIs (now (pairs .entry)) (now (content .entry)) (now (fragments .entry)) n big width home want r ⌝ }
 {
     let mut k = n;
     while 0 < k {
         k -= 1;
-        let p = 7 * k;
-        let c = pair_tells(table, pairs, content, fragments, p, big, width, home, want);
+        let p = PAIR_WIDTH * k;
+        let c = pair_tells(pairs, content, fragments, p, big, width, home, want);
         if is_byte(c) {
             return found(c, at(pairs, p));
         }

@@ -12,6 +12,8 @@ use header::Head;
 use header::Width;
 use records::PairsAnswer;
 use records::read_pairs;
+use rooms::AREA_ROOM;
+use rooms::SYMBOL_ROOM;
 use tables::Listed;
 use tables::group_one;
 
@@ -31,8 +33,8 @@ fn by_tables(
     text: &[u8],
     at: usize,
     form: Form,
-    xs: &mut [u32; 448],
-    ys: &mut [u32; 5120],
+    xs: &mut [u32; AREA_ROOM],
+    ys: &mut [u32; SYMBOL_ROOM],
     pairs: &[u32],
     content: &[u8],
     fragments: &[u32],
@@ -89,8 +91,8 @@ fn by_rows(
         };
     };
     let at = next + scan::line_ending(text, next);
-    let mut xs = [0u32; 448];
-    let mut ys = [0u32; 5120];
+    let mut xs = [0u32; AREA_ROOM];
+    let mut ys = [0u32; SYMBOL_ROOM];
     by_tables(
         text,
         at,

@@ -10,10 +10,10 @@ use Rattle.one_position.proofs.back.is_byte.Reads as is-byte-reads
 use Rattle.one_position.proofs.pair.pair_tells.Reads as pair-tells-reads
 
 abbrev Inv-loop : tie.InvT-loop
-Inv-loop table pairs content fragments n big width home want k₀ k = Backing table pairs content fragments n big width home want k
+Inv-loop pairs content fragments n big width home want k₀ k = Backing pairs content fragments n big width home want k
 
 abbrev μ-loop : tie.MeasureT-loop
-μ-loop table pairs content fragments n big width home want k₀ k = k
+μ-loop pairs content fragments n big width home want k₀ k = k
 
 loop-holds : tie.Need-loop-holds Inv-loop μ-loop
 loop-holds c = search backing
