@@ -1,0 +1,3 @@
+pub mod RowRecords
+pub mod GivesBack
+pub mod GoodRows
