@@ -30,12 +30,21 @@ use Rattle.difference.specs.Told as the
 use Rattle.difference.specs.Told.{Listed, compare, compared, comparedWith, isFinished, listed, moduleOf}
 use Rattle.read_rows.specs.Rows.{Accepts, Fit, moduleHeld, moduleIn}
 use Rattle.read_rows.proofs.Theorem.{a-refusal-was-read, what-is-held-was-read}
-use Rattle.changes_of.specs.Walk.{Walked, laid}
-use Rattle.changes_of.specs.Walk as walk
+use Rattle.laws.specs.Rows.{areasIn, fixupsIn}
+use Rattle.difference.specs.Module.{cells, sizes, split}
+use Rattle.difference.specs.Changes.{paired}
+use Rattle.change_rows.specs.Room.{fewOf}
+use Rattle.area_changes.specs.Here.{areaHere, areasFit}
+use Rattle.area_changes.proofs.Pairs.{the-areas}
+use Rattle.symbol_changes.specs.Here.{gathered, newHere, oldHere}
+use Rattle.symbol_changes.proofs.Names.{the-symbols}
+use Rattle.changes_of.proofs.Whole.{walk-is}
+use Rattle.change_rows.specs.Walk.{Walked, WalkedIf, laid}
+use Rattle.change_rows.specs.Walk as walk
 use Rattle.changes_of.specs.Answer.{Changed, Compares, FitIf, Lists, NewerRead, bothOf, bounds, finishedOf, toldOf}
 use Rattle.changes_of.specs.declared.Told.{Told}
 use Rattle.changes_of.specs.declared.Told.the-variants.{NewerRefused, OlderRefused, Refused, Rows}
-use Rattle.changes_of.proofs.Going.{columns}
+use Rattle.change_rows.proofs.Going.{columns}
 
 -- the list, by what was counted and what was written
 counted-same : {list : List ℕ} {cs : List Change} {k r : ℕ} {after : List ℕ} → Walked false list 0 cs k r after → after ≡ list
@@ -78,7 +87,7 @@ fit-long v k {x} {y} n e f h i =
     let m : length y ≡ length (take n (drop 0 k)) = ap length f in
     omega (arith, l, m, length-take n (drop 0 v), length-take n (drop 0 k), length-drop 0 v, length-drop 0 k)
 
-module _ (s p f v k xs : List ℕ) (one : Counts) (t q g w l ys : List ℕ) (two : Counts) (list : List ℕ)
+module _ (s p f v k xs : List ℕ) (one : Counts) (t q g w l ys : List ℕ) (two : Counts) (fit : (Fit (toldCounts one) (held p f v k xs)) × (Fit (toldCounts two) (held q g w l ys)))
     {va ka wa la : List ℕ} (x : va ≡ take (one .positions) (drop 0 v)) (y : ka ≡ take (one .positions) (drop 0 k)) (z : wa ≡ take (two .positions) (drop 0 w)) (u : la ≡ take (two .positions) (drop 0 l)) where
   abbrev walks : List Change
   walks = changes (moduleIn s p (one .areas) f (one .symbols) va ka xs (one .fixups)) (moduleIn t q (two .areas) g (two .symbols) wa la ys (two .fixups))
@@ -90,12 +99,28 @@ module _ (s p f v k xs : List ℕ) (one : Counts) (t q g w l ys : List ℕ) (two
   unfolding moduleHeld
   same-changes = rw (x, y, z, u)
 
-  pub rows-are-held : {r : Told} {after : List ℕ} → Lists (listed list walks) r after → Lists (listed list helds) r after
-  rows-are-held {r} {after} a = subst (λ (cs : List Change). Lists (listed list cs) r after) same-changes a
+  abbrev pairs : List Change
+  pairs = paired (areaHere s (fixupsIn xs (one .fixups)) t (fixupsIn ys (two .fixups))) 0 (split (sizes (areasIn p (one .areas))) (cells va ka)) (split (sizes (areasIn q (two .areas))) (cells wa la))
+
+  abbrev names : List Change
+  names = gathered (oldHere s f (one .symbols) t g (two .symbols)) 0 (one .symbols) ++ gathered (newHere t g (two .symbols) s f (one .symbols)) 0 (two .symbols)
+
+  pub walk-held : {writing : Bool} {list : List ℕ} {r : ℕ} {middle : List ℕ} {e : ℕ} {after : List ℕ}
+      → WalkedIf (areasFit (one .areas) va ka (one .fixups) (two .areas) wa la (two .fixups)) writing list 0 pairs 8650752 r middle
+      → WalkedIf (fewOf r (one .symbols) (two .symbols)) writing middle r names 2048 e after
+      → Walked writing list 0 helds 8652800 e after
+  walk-held {writing} {list} {r} {middle} {e} {after} a b =
+      let old = fit .0 in
+      let new = fit .1 in
+      let c = the-areas (one .areas) va ka (one .fixups) (two .areas) wa la (two .fixups) (fit-low v (one .positions) x (old .positions)) (fit-long v k (one .positions) x y (old .values) (old .masks))
+      (fit-low w (two .positions) z (new .positions)) (fit-long w l (two .positions) z u (new .values) (new .masks)) (old .fixups) (new .fixups) (old .areas) (new .areas) a in
+      let d = the-symbols (omega (arith, c .few)) (old .symbols) (new .symbols) b in
+      subst (λ (cs : List Change). Walked writing list 0 cs 8652800 e after) same-changes
+      (walk-is s p (one .areas) f (one .symbols) va ka xs (one .fixups) t q (two .areas) g (two .symbols) wa la ys (two .fixups) c d)
 
 pub ruleset fills = (needs, list-short, list-fits)
 
-pub ruleset lists = (needs, fit-low, fit-long, rows-are-held)
+pub ruleset walking = (needs, walk-held)
 
 -- `finished`
 module _ (s : List ℕ) (one : Counts) (h : Held) (t : List ℕ) (two : Counts) (k : Held) (list : List ℕ) where

@@ -8,7 +8,6 @@ use mathlib.Core.List.{List, [], _∷_, _++_}
 use mathlib.Core.Option.{Option, none, some}
 use native.Mathlib.Omega.{arith}
 use lib.Dec.{eqb, ltb}
-use borrow.Author.Needs.{needs}
 use borrow.Author.Tests.{eq-eqb, ne-eqb, lt-ltb, le-ltb, eqb-true, eqb-false, ltb-true, ltb-false}
 use Rattle.format.specs.Lists.{pick}
 use Rattle.format.specs.Fixups.{Fixup}
@@ -20,10 +19,12 @@ use Rattle.difference.specs.Module as the
 use Rattle.difference.specs.Module.{At, Cell, Module, Named, cells, first, firsts, images, named, numbered, passing, sameNumbers, sizes, split, symbolsOf}
 use Rattle.difference.specs.Changes.{Change, areaChange, changes, each, lacking, newer, older, onlyNew, paired, symbolChanges, valueChange}
 use Rattle.difference.proofs.Lists.{same-refl}
-use Rattle.changes_of.specs.Walk.{Walked}
-use Rattle.changes_of.specs.Here.{areaHere, firstIn, gathered, isFirst, lackingIn, newHere, oldHere, symbolHere}
+use Rattle.change_rows.specs.Walk.{Walked}
+use Rattle.area_changes.specs.Here.{areaHere}
+use Rattle.symbol_changes.specs.Here.{firstIn, gathered, isFirst, newHere, oldHere, symbolHere}
+use Rattle.fixup_changes.specs.Here.{lackingIn}
 use Rattle.read_rows.specs.Rows.{moduleIn}
-use Rattle.changes_of.proofs.Names.{walked-both}
+use Rattle.change_rows.proofs.Going.{walked-both}
 
 -- the areas
 paired-same : (f g : ℕ → Option (List Cell) → Option (List Cell) → List Change) → ((i : ℕ) (x y : Option (List Cell)) → f i x y ≡ g i x y) → (i : ℕ) (xs ys : List (List Cell)) → paired f i xs ys ≡ paired g i xs ys
@@ -196,5 +197,3 @@ module _ (s p : List ℕ) (a : ℕ) (sx : List ℕ) (c : ℕ) (v k xs : List ℕ
       → Walked writing list 0 (changes (moduleIn s p a sx c v k xs m) (moduleIn t q b sy d w l ys n)) 8652800 u after
   walk-is {writing} {list} {r} {middle} {u} {after} f g =
       subst (λ (cs : List Change). Walked writing list 0 cs 8652800 u after) (sym all-changes) (walked-both f g (omega arith))
-
-pub ruleset whole = (needs, walk-is)

@@ -3,7 +3,7 @@ ghost use Rattle.reading.specs.Answer.{held, told, toldCounts, toldVerdict};
 ghost use Rattle.read_rows.specs.Rows.{Fit};
 ghost use Rattle.changes_of.specs.Answer.{FitIf, Lists, bothOf, finishedOf};
 use crate::Told;
-use crate::listed::rows;
+use crate::listed::fill;
 use reading::Answer;
 use reading::Counts;
 use reading::Verdict;
@@ -41,7 +41,7 @@ fn finished(
                 number: 19,
                 place: 0,
             },
-            Verdict::Finished => rows(s, p, f, v, k, xs, one, t, q, g, w, l, ys, two, list),
+            Verdict::Finished => fill(s, p, f, v, k, xs, one, t, q, g, w, l, ys, two, list),
         },
     }
 }

@@ -3,15 +3,13 @@ ghost use Rattle.reading.specs.Answer.{held, told};
 ghost use Rattle.changes_of.specs.Answer.{Changed, Compares, FitIf, NewerRead};
 use reading::Answer;
 use reading::read_ended;
+use rooms::AREA_ROOM;
+use rooms::FIXUP_ROOM;
+use rooms::IMAGE_ROOM;
+use rooms::SYMBOL_ROOM;
 
-mod areas;
 mod both;
-mod fixups;
 mod listed;
-mod positions;
-mod put;
-mod symbols;
-mod walk;
 
 // A refusal of the older text, of the newer, or of both; or how many rows there are.
 pub enum Told {
@@ -88,16 +86,16 @@ fn compare_in(
 pub fn changes_of(older: &[u8], newer: &[u8], list: &mut [u32]) -> Told
     ensures { λ r. ⌜ Changed (now (older .entry)) (now (newer .entry)) (now (list .entry)) r (now (list .exit)) ⌝ }
 {
-    let mut p = [0u32; 448];
-    let mut f = [0u32; 5120];
-    let mut v = [0u8; 65536];
-    let mut k = [0u8; 65536];
-    let mut xs = [0u32; 9216];
-    let mut q = [0u32; 448];
-    let mut g = [0u32; 5120];
-    let mut w = [0u8; 65536];
-    let mut l = [0u8; 65536];
-    let mut ys = [0u32; 9216];
+    let mut p = [0u32; AREA_ROOM];
+    let mut f = [0u32; SYMBOL_ROOM];
+    let mut v = [0u8; IMAGE_ROOM];
+    let mut k = [0u8; IMAGE_ROOM];
+    let mut xs = [0u32; FIXUP_ROOM];
+    let mut q = [0u32; AREA_ROOM];
+    let mut g = [0u32; SYMBOL_ROOM];
+    let mut w = [0u8; IMAGE_ROOM];
+    let mut l = [0u8; IMAGE_ROOM];
+    let mut ys = [0u32; FIXUP_ROOM];
     compare_in(
         older,
         &mut p,

@@ -3,7 +3,7 @@ use Rattle.changes_of.proofs.both.finished.Statement.{statement}
 use Rattle.changes_of.proofs.both.finished.Tie as tie
 use Rattle.changes_of.proofs.both.finished.Reads as reads
 use Rattle.changes_of.proofs.both.finished.Lts as lts
-use Rattle.changes_of.proofs.listed.rows.Reads as rows-reads
+use Rattle.changes_of.proofs.listed.fill.Reads as fill-reads
 
 enum-told : tie.Need-enum-told
 enum-told c = search finishes
@@ -17,8 +17,8 @@ enum-told-3 c = search finishes
 enum-told-4 : tie.Need-enum-told-4
 enum-told-4 c = search finishes
 
-rows-requires : tie.Need-rows-requires
-rows-requires c κs = search finishes
+fill-requires : tie.Need-fill-requires
+fill-requires c κs = search finishes
 
 returns : tie.Need-returns
 returns c = search finishes
@@ -40,7 +40,7 @@ finished-spec =
     enum-told-2
     enum-told-3
     enum-told-4
-    rows-requires
+    fill-requires
     returns
     returns-2
     same-length

@@ -3,7 +3,7 @@ use Rattle.changes_of.proofs.listed.fill.Statement.{statement}
 use Rattle.changes_of.proofs.listed.fill.Tie as tie
 use Rattle.changes_of.proofs.listed.fill.Reads as reads
 use Rattle.changes_of.proofs.listed.fill.Lts as lts
-use Rattle.changes_of.proofs.walk.walk.Reads as walk-reads
+use Rattle.changes_of.proofs.listed.walk.Reads as walk-reads
 
 walk-requires : tie.Need-walk-requires
 walk-requires c κs = search fills
