@@ -5,10 +5,11 @@ ghost use Rattle.format.specs.Pairs.{nextIndex, fragment};
 ghost use Rattle.numbers.specs.Told.{told};
 ghost use Rattle.fields.specs.Told.{halt};
 ghost use Rattle.fragments.specs.Fragments.{toldFragment, FragmentsRead};
-use crate::modes::parse_extended_mode;
 use lists::Run;
+use modes::parse_extended_mode;
 use numbers::Num;
 use scan::Kind;
+use usual_fragment::Usual;
 
 // A fragment and the place behind it, or why and where it came to a halt.
 pub enum FragmentAt {
@@ -91,6 +92,29 @@ pub fn fragment_at(t: &[u8], at: usize, radix: u8, big: bool) -> FragmentAt
     }
 }
 
+// The same. The usual form is read at once, and behind the end nothing is looked for.
+fn next_fragment(t: &[u8], at: usize, radix: u8, big: bool) -> FragmentAt
+    ensures { λ r. ⌜ toldFragment r ≡ fragment radix big (now (t .entry)) at ⌝ }
+{
+    if t.len() <= at {
+        return FragmentAt::NoFragment { reason: 4, at: at };
+    }
+    match usual_fragment::usual_fragment(t, at, radix, big) {
+        Usual::Is {
+            mode,
+            entry,
+            index,
+            next,
+        } => FragmentAt::Fragment {
+            mode: mode,
+            entry: entry,
+            index: index,
+            next: next,
+        },
+        Usual::Other => fragment_at(t, at, radix, big),
+    }
+}
+
 // A number into its place of what was lent; past the end nothing is written.
 fn put(out: &mut [u32], i: usize, v: u32)
     ensures { λ _. ⌜ now (out .exit) ≡ set (now (out .entry)) i v ⌝ }
@@ -121,7 +145,7 @@ pub fn parse_reloc_frag(
             entry,
             index,
             next,
-        } = fragment_at(t, p, radix, big)
+        } = next_fragment(t, p, radix, big)
         else {
             return Run { count: n, end: p };
         };

@@ -1,10 +1,8 @@
-// What R lines hold many times: modes, and fragments of mode, entry and index.
+// What R lines hold many times: fragments of mode, entry and index.
 // A reader takes a line and a place, and answers what stands there with the place behind it, or why and where it came to a halt. Past the end it reads nothing.
 mod fragments;
-mod modes;
 
 pub use fragments::FragmentAt;
 pub use fragments::fragment_at;
 pub use fragments::next_index;
 pub use fragments::parse_reloc_frag;
-pub use modes::parse_extended_mode;

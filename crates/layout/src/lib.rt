@@ -1,4 +1,8 @@
 // What was read, laid over lent buffers: the rows of areas and symbols, the images, and the fixup rows area by area.
+use rooms::AREA_ROOM;
+use rooms::AREA_WIDTH;
+use rooms::FIXUP_ROOM;
+use rooms::SYMBOL_WIDTH;
 ghost use mathlib.Core.Path.{_≡_};
 ghost use Prim.Native.Nat.{_≤_};
 ghost use lib.ListN.{take};
@@ -12,13 +16,13 @@ fn at_most(m: usize, n: usize) -> usize
     if n <= m { n } else { m }
 }
 
-fn copy_areas(dst: &mut [u32], src: &[u32; 448], n: usize)
+fn copy_areas(dst: &mut [u32], src: &[u32; AREA_ROOM], n: usize)
     ensures { λ _. ⌜ now (dst .exit) ≡ sets (now (dst .entry)) 0 (take n (now (src .entry))) ⌝ }
 {
     cells::copy_u32s(dst, 0, src, n)
 }
 
-fn copy_symbols(dst: &mut [u32], src: &[u32; 5120], n: usize)
+fn copy_symbols(dst: &mut [u32], src: &[u32], n: usize)
     ensures { λ _. ⌜ now (dst .exit) ≡ sets (now (dst .entry)) 0 (take n (now (src .entry))) ⌝ }
 {
     cells::copy_u32s(dst, 0, src, n)
@@ -31,19 +35,19 @@ fn copy_image(dst: &mut [u8], src: &[u8], n: usize)
 }
 
 // The first k fixup rows, area by area; nothing where there are not as many, or no room for them.
-fn copy_fixups(dst: &mut [u32], rows: &[u32; 9216], k: usize, kept: usize)
+fn copy_fixups(dst: &mut [u32], rows: &[u32; FIXUP_ROOM], k: usize, kept: usize)
     ensures { λ _. ⌜ FixupsOut k kept (now (rows .entry)) (now (dst .entry)) (now (dst .exit)) ⌝ }
 {
     let n = at_most(64, kept);
     grouped::by_area(rows, k, n as u32, dst);
 }
 
-// The rows of so many areas and symbols, of the 64 and 1,024 that the arrays have room for.
+// The rows of so many areas and symbols, of 64 and 1,024 at most.
 pub fn lay_tables(
     na: usize,
     ns: usize,
-    xs: &[u32; 448],
-    ys: &[u32; 5120],
+    xs: &[u32; AREA_ROOM],
+    ys: &[u32],
     areas: &mut [u32],
     symbols: &mut [u32],
 )
@@ -51,8 +55,8 @@ pub fn lay_tables(
 {
     let a = at_most(64, na);
     let s = at_most(1024, ns);
-    copy_areas(areas, xs, 7 * a);
-    copy_symbols(symbols, ys, 5 * s)
+    copy_areas(areas, xs, AREA_WIDTH * a);
+    copy_symbols(symbols, ys, SYMBOL_WIDTH * s)
 }
 
 // The images of so many positions, and k fixup rows of so many kept areas.
@@ -62,7 +66,7 @@ pub fn lay_images(
     kept: usize,
     vs: &[u8],
     ms: &[u8],
-    rows: &[u32; 9216],
+    rows: &[u32; FIXUP_ROOM],
     values: &mut [u8],
     masks: &mut [u8],
     fixups: &mut [u32],

@@ -2,7 +2,9 @@
 // A reader takes a text and a place, and answers how many there were and the place behind them. Past the end it reads nothing.
 ghost use mathlib.Core.Path.{_≡_};
 ghost use lib.ListN.{set};
-ghost use Rattle.numbers.specs.Short.{Hex};
+ghost use Rattle.format.specs.Number.{nextByte};
+ghost use Rattle.numbers.specs.Short.{Hex, Spaced};
+ghost use Rattle.numbers.specs.Told.{told};
 ghost use Rattle.lists.specs.Many.{BytesRead, BytesBegun};
 ghost use Rattle.lists.specs.Reach.{Reach};
 use numbers::Num;
@@ -59,7 +61,26 @@ fn hex_of(b: u8) -> u64
     x - 55
 }
 
-// The first bytes of a list, as many as stand there as one space, two capital digits of radix 16 and the space of the next.
+// The last byte of a list, if it stands at the end of the text as one space and two capital digits of radix 16; else 256.
+fn last_byte(t: &[u8], p: usize, radix: u8) -> u64
+    ensures { λ r. ⌜ Spaced radix (now (t .entry)) p r ⌝ }
+{
+    if radix != 16 {
+        return 256;
+    }
+    if t.len() <= p {
+        return 256;
+    }
+    if t.len() - p != 3 {
+        return 256;
+    }
+    if t[p] != 32 {
+        return 256;
+    }
+    numbers::two_capitals(t[p + 1], t[p + 2])
+}
+
+// The first bytes of a list, as many as stand there as one space, two capital digits of radix 16 and the space of the next or the end of the text.
 fn begin_bytes(t: &[u8], at: usize, radix: u8, out: &mut [u8; 256]) -> Run
     ensures { λ r. ⌜ BytesBegun radix (now (t .entry)) at r (now (out .entry)) (now (out .exit)) ⌝ }
 {
@@ -82,7 +103,25 @@ fn begin_bytes(t: &[u8], at: usize, radix: u8, out: &mut [u8; 256]) -> Run
         n += 1;
         p += 3;
     }
+    let v = last_byte(t, p, radix);
+    if v < 256 {
+        put_byte(out, n, v as u8);
+        return Run {
+            count: n + 1,
+            end: p + 3,
+        };
+    }
     Run { count: n, end: p }
+}
+
+// One or more blanks, and a byte. Behind the end nothing is looked for.
+fn following(t: &[u8], at: usize, radix: u8) -> Num
+    ensures { λ r. ⌜ told r ≡ nextByte radix (now (t .entry)) at ⌝ }
+{
+    if t.len() <= at {
+        return Num::No { reason: 4, at: at };
+    }
+    numbers::next_byte(t, at, radix)
 }
 
 // As many bytes as can be read, each behind blanks. The first 256 are written, all are counted.
@@ -94,7 +133,7 @@ pub fn parse_byte_many(t: &[u8], at: usize, radix: u8, out: &mut [u8; 256]) -> R
     let mut p = begun.end;
     let mut k = t.len() - n;
     while 0 < k {
-        let Num::Is { value, next } = numbers::next_byte(t, p, radix) else {
+        let Num::Is { value, next } = following(t, p, radix) else {
             return Run { count: n, end: p };
         };
         put_byte(out, n, value as u8);

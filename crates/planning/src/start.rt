@@ -4,6 +4,7 @@ ghost use Rattle.planning.specs.Plan.{goingAt, startingOf};
 use crate::state::Progress;
 use crate::state::Standing;
 use homes::Home;
+use rooms::IMAGE_ROOM;
 use tables::Found;
 
 // Group two before its first pair, over so many positions. The home is that of the index behind the last area, which is none.
@@ -33,7 +34,7 @@ fn going_at(found: Found, positions: usize, on: bool, standing: Standing) -> Pro
 pub fn starting(found: Found, total: usize) -> Progress
     ensures { λ r. ⌜ r ≡ startingOf found total ⌝ }
 {
-    if 65536 < total {
+    if IMAGE_ROOM < total {
         let nine = Standing::Kept {
             number: 9,
             place: 0,

@@ -70,7 +70,7 @@ pub extern "C" fn probe_index(t: &[u8], at: usize, radix: u8, big: bool) -> Row
 pub extern "C" fn probe_mode(t: &[u8], at: usize, radix: u8) -> Row
     ensures { λ r. ⌜ r ≡ numberRow (modeOf radix (now (t .entry)) at) ⌝ }
 {
-    number_row(fragments::parse_extended_mode(t, at, radix))
+    number_row(modes::parse_extended_mode(t, at, radix))
 }
 
 // The header: radix, order and address length.

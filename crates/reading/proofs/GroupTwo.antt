@@ -21,7 +21,6 @@ use Rattle.format.specs.Placing.{State, placePair}
 use Rattle.laws.specs.Places.{pairAt, pairsAt}
 use Rattle.laws.specs.Rows.{from, areasIn, tablesIn, stateOf, knownAt}
 use Rattle.laws.proofs.Places.{pairs-at}
-use Rattle.mode.specs.Class.{classTable}
 use Rattle.header.specs.Told.{formOf, moreOf}
 use Rattle.header.specs.declared.Form as text
 use Rattle.header.specs.declared.Width.{Width}
@@ -117,7 +116,7 @@ told-stands (Through k x) vs ms rows o e = cc
 told-stands (Stopped n p) vs ms rows o e = cc
 told-stands Misfit vs ms rows o e = absurd (let z : _≡_ {A = ℕ} 0 1 = cc in omega arith)
 
-module _ {l : Line} {g : Progress} {table bytes areas rows : List ℕ} (w : PlaceReady l g table bytes areas rows) (ms es xs symbols vs fs : List ℕ) where
+module _ {l : Line} {g : Progress} {bytes areas rows : List ℕ} (w : PlaceReady l g bytes areas rows) (ms es xs symbols vs fs : List ℕ) where
   pub body-kept : {n p : ℕ} → g .standing ≡ Kept n p → {g′ : Progress} {u : Turn} → g′ ≡ standingIn g (g .home) (g .standing) → u ≡ afterOf g′
       → (Advances l g bytes ms es xs areas symbols vs fs rows u vs fs rows) × (CarriedBy (g .areas) areas fs u areas fs)
   body-kept e i j = (
@@ -126,15 +125,14 @@ module _ {l : Line} {g : Progress} {table bytes areas rows : List ℕ} (w : Plac
   )
 
   pub body-made : {k : ℕ} → g .standing ≡ Made k → {x : ℕ} → x ≡ knownAt areas (l .area) → {q : Filled} → q ≡ filledOf g k x → {h : Home} → h ≡ homeAt areas (g .areas) (l .area) → {r : place.Placed} {vs′ fs′ rows′ : List ℕ}
-      → PairPlaced (fitsIn table l h bytes ms q rows) (pairIn l h bytes ms es xs areas symbols q (stateOf vs fs rows (q .fixups))) (q .known) vs fs rows r vs′ fs′ rows′ → ((j : ℕ) → getD fs′ j 0 < 256)
+      → PairPlaced (fitsIn l h bytes q rows) (pairIn l h bytes ms es xs areas symbols q (stateOf vs fs rows (q .fixups))) (q .known) vs fs rows r vs′ fs′ rows′ → ((j : ℕ) → getD fs′ j 0 < 256)
       → {areas′ : List ℕ} → areas′ ≡ keptIn areas (l .area) r
       → {s : Standing} {g′ : Progress} {u : Turn} → s ≡ standingOf r → g′ ≡ standingIn g h s → u ≡ afterOf g′
       → (Advances l g bytes ms es xs areas symbols vs fs rows u vs′ fs′ rows′) × (CarriedBy (g .areas) areas fs u areas′ fs′)
   unfolding pairOf
   body-made {k} e {x} ex {q} i {h} eh {r} {vs′} {fs′} {rows′} d small {areas′} ea {s} {g′} j n u =
       let made : Sound areas (g .areas) (Made k) = rw e at (w .sound) in
-      let can : Fit table l h bytes areas (filledOf g k x) rows = record {
-        classes = w .classes;
+      let can : Fit l h bytes areas (filledOf g k x) rows = record {
         home = eh;
         address = w .address;
         content = w .content;
@@ -146,7 +144,7 @@ module _ {l : Line} {g : Progress} {table bytes areas rows : List ℕ} (w : Plac
         made = made .0;
         room = w .room;
       } in
-      let fit : fitsIn table l h bytes ms q rows ≡ true = rw i (fits-when can ms) in
+      let fit : fitsIn l h bytes q rows ≡ true = rw i (fits-when can) in
       let placed : told r vs′ fs′ rows′ ≡ some (pairOf l bytes ms es xs areas symbols q (stateOf vs fs rows k) 16 0) =
       (rw (fit, i) at (d .says 16 0)) ∙ ap some (placed-when can ms es xs symbols (stateOf vs fs rows k) 16 0 ∙ rw i) in (
         record {
@@ -172,7 +170,7 @@ module _ {l : Line} {g : Progress} {table bytes areas rows : List ℕ} (w : Plac
 pub home-last : (areas : List ℕ) (g : Progress) {i : ℕ} → g .home ≡ homeAt areas (g .areas) (g .home .area) → g .home .area ≡ i → g .home ≡ homeAt areas (g .areas) i
 home-last areas g e j = e ∙ ap (homeAt areas (g .areas)) j
 
-pub ready-homed : {l : Line} {g : Progress} {table bytes areas rows : List ℕ} → PlaceReady l g table bytes areas rows → g .home ≡ homeAt areas (g .areas) (g .home .area)
+pub ready-homed : {l : Line} {g : Progress} {bytes areas rows : List ℕ} → PlaceReady l g bytes areas rows → g .home ≡ homeAt areas (g .areas) (g .home .area)
 ready-homed w = w .homed
 
 pub ruleset bodies = (needs, body-kept, body-made, home-last, ready-homed)
@@ -218,7 +216,7 @@ few-end areas na (Kept x p) n stop h = tt
 
 -- the pairs at a place, by what the two lines there do
 module _ (ended : Bool) (f : Form) (text : List ℕ) (p : ℕ) where
-  at-ends : stops ≡ pairAt ended f text p → pairsAt ended f text p ≡ []
+  pub at-ends : stops ≡ pairAt ended f text p → pairsAt ended f text p ≡ []
   at-ends e = pairs-at ended f text p ∙ rw (← e)
 
   at-takes : {body : Body} {end next : ℕ} {on : Bool} {b ms es xs b′ ms′ es′ xs′ : List ℕ} (s : StepOf (pairAt ended f text p) text p body end next on b ms es xs b′ ms′ es′ xs′)
@@ -402,13 +400,12 @@ module _ {ended : Bool} (f : text.Form) {text areas : List ℕ} {g : Progress} (
   w : Seen (here .pair) (plan .address) (plan .count) (plan .area) (plan .fragments) b ms es xs b′ ms′ es′ xs′
   w = seen (here .pair) (plan .address) (plan .count) (plan .area) (plan .fragments) b ms es xs b′ ms′ es′ xs′ (here .body-is)
 
-  pub turn-ready : {table rows : List ℕ} → table ≡ classTable → 9216 ≤ length rows → PlaceReady l g′ table b′ areas rows
-  turn-ready {table} {rows} h j =
+  pub turn-ready : {rows : List ℕ} → 9216 ≤ length rows → PlaceReady l g′ b′ areas rows
+  turn-ready {rows} j =
       let long : length b′ ≡ length b = rw (w .so .bytes) (length-sets b 0 (w .content .bytes)) in
-      subst (λ (x : Line). PlaceReady x g′ table b′ areas rows) (plan .line)
-      (subst (λ (x : Progress). PlaceReady (lineFor f (g .next) (plan .address) (plan .count) (plan .area) (plan .fragments)) x table b′ areas rows) (plan .going)
+      subst (λ (x : Line). PlaceReady x g′ b′ areas rows) (plan .line)
+      (subst (λ (x : Progress). PlaceReady (lineFor f (g .next) (plan .address) (plan .count) (plan .area) (plan .fragments)) x b′ areas rows) (plan .going)
       (record {
-        classes = h;
         address = width-low (f .width);
         content = plan .short;
         lent = omega (arith, plan .short, z .of-bytes);

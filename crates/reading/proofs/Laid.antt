@@ -109,6 +109,12 @@ zeros-448 = length-replicate {A = ℕ} 448 0
 pub zeros-5120 : length {A = ℕ} (replicate 5120 0) ≡ 5120
 zeros-5120 = length-replicate {A = ℕ} 5120 0
 
+pub room-many : {n : ℕ} → n ≤ 1024 → 5 * n ≤ length {A = ℕ} (replicate 5120 0)
+room-many h = rw zeros-5120 (omega arith)
+
+pub room-few : {n : ℕ} → n ≤ 64 → 5 * n ≤ length {A = ℕ} (replicate 320 0)
+room-few h = rw (length-replicate {A = ℕ} 320 0) (omega arith)
+
 pub zeros-9216 : length {A = ℕ} (replicate 9216 0) ≡ 9216
 zeros-9216 = length-replicate {A = ℕ} 9216 0
 
@@ -223,8 +229,6 @@ blank-large {text} {xs} {d} {s} u = go (ltb 65536 (s .total)) refl
 pub begun : {text xs : List ℕ} {d : Found} {s : Sizes} → d .next ≤ length text → length text ≤ 65536 → d .areas ≤ 64 → d .symbols ≤ 1024 → SizesAre xs (few (d .areas)) s → Begun text xs d s
 begun a b c e w = record { inside = a; short = b; areas-low = c; symbols-low = e; sizes = sizes-all w c }
 
-pub ruleset sizing = (needs, blank-small, blank-large, begun)
-
 -- ------------------------------------------------------------------ `over_images`
 
 module _ {ended : Bool} {f : Form} {text : List ℕ} (d : Found) {xs ys : List ℕ} {s : Sizes} (u : Begun text xs d s) {g : Progress} (e : g ≡ startingOf d (s .total)) {two : Paired} {vs₀ ms₀ rows₀ xs′ vs ms rows : List ℕ}
@@ -237,13 +241,13 @@ module _ {ended : Bool} {f : Form} {text : List ℕ} (d : Found) {xs ys : List �
       go true = refl
       go false = refl
 
-  same-tables : {t : Tables} {xs₀ ys₀ : List ℕ} → length xs₀ ≡ 448 → length ys₀ ≡ 5120 → Hold t xs₀ ys₀ xs ys (d .areas) (d .symbols) → tablesIn xs (d .areas) ys (d .symbols) ≡ t
+  same-tables : {t : Tables} {xs₀ ys₀ : List ℕ} → length xs₀ ≡ 448 → 5 * d .symbols ≤ length ys₀ → Hold t xs₀ ys₀ xs ys (d .areas) (d .symbols) → tablesIn xs (d .areas) ys (d .symbols) ≡ t
   same-tables lx ly h = tables-held h (omega (arith, u .areas-low)) (omega (arith, u .symbols-low))
 
-  same-total : {t : Tables} {xs₀ ys₀ : List ℕ} → length xs₀ ≡ 448 → length ys₀ ≡ 5120 → Hold t xs₀ ys₀ xs ys (d .areas) (d .symbols) → s .total ≡ total (t .areas)
+  same-total : {t : Tables} {xs₀ ys₀ : List ℕ} → length xs₀ ≡ 448 → 5 * d .symbols ≤ length ys₀ → Hold t xs₀ ys₀ xs ys (d .areas) (d .symbols) → s .total ≡ total (t .areas)
   same-total lx ly h = u .sizes .total-is ∙ ap total (areas-held h (omega (arith, u .areas-low)) (omega (arith, u .symbols-low)))
 
-  comes-to : {t : Tables} {xs₀ ys₀ : List ℕ} → length xs₀ ≡ 448 → length ys₀ ≡ 5120 → Hold t xs₀ ys₀ xs ys (d .areas) (d .symbols)
+  comes-to : {t : Tables} {xs₀ ys₀ : List ℕ} → length xs₀ ≡ 448 → 5 * d .symbols ≤ length ys₀ → Hold t xs₀ ys₀ xs ys (d .areas) (d .symbols)
       → wholeAt f t (pairsFrom ended f text (d .next) (d .more)) (d .stop) ≡ andThen (toldTwo two (take (g .positions) vs) (take (g .positions) ms) rows) (λ x. fine (wholeFrom t (s .total) x))
   unfolding starts
   comes-to {t} lx ly h =
@@ -252,7 +256,7 @@ module _ {ended : Bool} {f : Form} {text : List ℕ} (d : Found) {xs ys : List �
       ∙ ap (λ (o : Outcome Ended). andThen o (λ x. fine (wholeFrom t (s .total) x))) (sym (v .grouped .says)))
 
   -- the rows of areas have the known bits of the masks, before group two and behind it
-  known-first : {t : Tables} {xs₀ ys₀ : List ℕ} → length xs₀ ≡ 448 → length ys₀ ≡ 5120 → Hold t xs₀ ys₀ xs ys (d .areas) (d .symbols) → known.Kept (g .areas) xs (take (g .positions) ms₀)
+  known-first : {t : Tables} {xs₀ ys₀ : List ℕ} → length xs₀ ≡ 448 → 5 * d .symbols ≤ length ys₀ → Hold t xs₀ ys₀ xs ys (d .areas) (d .symbols) → known.Kept (g .areas) xs (take (g .positions) ms₀)
   known-first {t} {xs₀} lx ly h =
       let z : take (g .positions) ms₀ ≡ replicate (g .positions) 0 = rw e (bm .zeros) in
       let n : g .areas ≡ d .areas = started in
@@ -263,7 +267,7 @@ module _ {ended : Bool} {f : Form} {text : List ℕ} (d : Found) {xs ys : List �
         table = rw (n, z, areas-held h (omega (arith, u .areas-low)) (omega (arith, u .symbols-low))) (r ∙ sym (nothing-known (t .areas) (g .positions)));
       }
 
-  known-rows : {t : Tables} {xs₀ ys₀ : List ℕ} → length xs₀ ≡ 448 → length ys₀ ≡ 5120 → Hold t xs₀ ys₀ xs ys (d .areas) (d .symbols) → take (7 * d .areas) xs′ ≡ areaTable (t .areas) (take (g .positions) ms)
+  known-rows : {t : Tables} {xs₀ ys₀ : List ℕ} → length xs₀ ≡ 448 → 5 * d .symbols ≤ length ys₀ → Hold t xs₀ ys₀ xs ys (d .areas) (d .symbols) → take (7 * d .areas) xs′ ≡ areaTable (t .areas) (take (g .positions) ms)
   known-rows {t} lx ly h =
       let n : g .areas ≡ d .areas = started in
       let k = v .carried .keeps (known-first lx ly h) .table in
@@ -305,7 +309,7 @@ module _ {ended : Bool} {f : Form} {text : List ℕ} (d : Found) {xs ys : List �
     unfolding wholeFrom paper.countsOf paper.fixupsOf areasFor stateOf fixupsIn tablesIn
     rest-done {c} i {areas} {symbols} {values} {masks} {fixups} {areas′} {symbols′} {values′} {masks′} {fixups′} rooms lr lz a m {r} b = record { laid = lay }
       where
-        lay : (t : Tables) (xs₀ ys₀ : List ℕ) → length xs₀ ≡ 448 → length ys₀ ≡ 5120 → Hold t xs₀ ys₀ xs ys (d .areas) (d .symbols)
+        lay : (t : Tables) (xs₀ ys₀ : List ℕ) → length xs₀ ≡ 448 → 5 * d .symbols ≤ length ys₀ → Hold t xs₀ ys₀ xs ys (d .areas) (d .symbols)
             → Laid (length text) (wholeAt f t (pairsFrom ended f text (d .next) (d .more)) (d .stop)) (held areas symbols values masks fixups) r (held areas′ symbols′ values′ masks′ fixups′)
         lay t xs₀ ys₀ lx ly k₀ =
             let o : wholeAt f t (pairsFrom ended f text (d .next) (d .more)) (d .stop) ≡ fine (wholeFrom t (s .total) (record { lines = lines; stop = stop; state = stateOf (take (g .positions) vs) (take (g .positions) ms) rows k })) =
@@ -383,22 +387,25 @@ module _ (ended : Bool) (f : Form) (text : List ℕ) (at head : ℕ) (xs₀ ys�
         wholeIn : Tables → List (Taken the.Pair) → ℕ → Outcome Whole
         wholeIn t ps e = andThen (counted ps) (λ n. andThen (room t) (λ z. andThen (placing f t ps) (λ s. fine (record { built = record { tables = t; lines = n; size = z; state = s }; stop = e }))))
 
-    pub lines-rest : length xs₀ ≡ 448 → length ys₀ ≡ 5120 → {old new : Held} {r : code.Answer} → RestIs ended f text d xs ys old r new → Laid (length text) (wholeLines ended f text at head) old r new
+    pub lines-rest : length xs₀ ≡ 448 → 5 * d .symbols ≤ length ys₀ → {old new : Held} {r : code.Answer} → RestIs ended f text d xs ys old r new → Laid (length text) (wholeLines ended f text at head) old r new
     lines-rest lx ly {old} {new} {r} v = subst (λ (x : Outcome Whole). Laid (length text) x old r new) (sym lines-are) (v .laid (found .sofar) xs₀ ys₀ lx ly (found .held))
 
-pub ruleset lines = (needs, zeros-448, zeros-5120, lines-refused, lines-long, lines-next, lines-areas, lines-symbols, lines-rest)
+pub ruleset lines = (needs, zeros-448, room-many, room-few, lines-refused, lines-long, lines-next, lines-areas, lines-symbols, lines-rest)
 
 -- ------------------------------------------------------------------ `second`
 
 module _ (ended : Bool) (f : Form) {text areas : List ℕ} (symbols : List ℕ) {g : Progress} (r : Ready text areas g) where
-  pub second-none : not (g .on) ≡ true → {two : Paired} → two ≡ endingOf g → (vs ms rows : List ℕ)
+  pub second-idle : pairsFrom ended f text (g .next) (g .on) ≡ [] → {two : Paired} → two ≡ endingOf g → (vs ms rows : List ℕ)
       → SecondIs ended f text areas symbols g vs ms rows two areas vs ms rows
   unfolding onwardFrom
-  second-none h e vs ms rows =
+  second-idle h e vs ms rows =
       let T = tablesIn areas (g .areas) symbols (g .symbols) in
       let b : onward f T (pairsFrom ended f text (g .next) (g .on)) g (take (g .positions) vs) (take (g .positions) ms) rows ≡ onward f T [] g (take (g .positions) vs) (take (g .positions) ms) rows =
-      ap (λ (c : Bool). onward f T (pairsFrom ended f text (g .next) c) g (take (g .positions) vs) (take (g .positions) ms) rows) (was-no (g .on) h) in
+      ap (λ (ps : List (Taken the.Pair)). onward f T ps g (take (g .positions) vs) (take (g .positions) ms) rows) h in
       rw e (record { grouped = record { says = sym (b ∙ onward-end f T g (take (g .positions) vs) (take (g .positions) ms) rows); few = few-end areas (g .areas) (g .standing) (g .lines) (g .stop) (r .sound) }; carried = carried-none (g .areas) areas (take (g .positions) ms) })
+
+  pub second-none : not (g .on) ≡ true → {two : Paired} → two ≡ endingOf g → (vs ms rows : List ℕ) → SecondIs ended f text areas symbols g vs ms rows two areas vs ms rows
+  second-none h = second-idle (ap (λ (c : Bool). pairsFrom ended f text (g .next) c) (was-no (g .on) h))
 
   -- over the first positions of two images, which come back with what stands behind them
   pub second-some : not (g .on) ≡ false → (vs ms : List ℕ) → g .positions ≤ length vs → g .positions ≤ length ms → {rows areas′ vs′ ms′ rows′ : List ℕ} {two : Paired}

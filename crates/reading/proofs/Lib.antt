@@ -2,3 +2,4 @@ pub mod Carrying
 pub mod GroupTwo
 pub mod Laid
 pub mod Opening
+pub mod Nothing

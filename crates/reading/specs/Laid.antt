@@ -130,5 +130,5 @@ answerTwo (All n e k) = Refusal 0 0
 
 -- group two and what is laid out, for the tables that the rows hold
 pub record RestIs (ended : Bool) (f : Form) (text : List ℕ) (d : Found) (xs ys : List ℕ) (old : Held) (r : code.Answer) (new : Held) : Type 0 where
-  pub laid : (t : Tables) (xs₀ ys₀ : List ℕ) → length xs₀ ≡ 448 → length ys₀ ≡ 5120 → Hold t xs₀ ys₀ xs ys (d .areas) (d .symbols)
+  pub laid : (t : Tables) (xs₀ ys₀ : List ℕ) → length xs₀ ≡ 448 → 5 * d .symbols ≤ length ys₀ → Hold t xs₀ ys₀ xs ys (d .areas) (d .symbols)
       → Laid (length text) (wholeAt f t (pairsFrom ended f text (d .next) (d .more)) (d .stop)) old r new

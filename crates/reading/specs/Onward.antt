@@ -15,7 +15,6 @@ use Rattle.format.specs.Tables.{Tables, fits, total}
 use Rattle.format.specs.Placing.{State, placePair}
 use Rattle.laws.specs.Places.{pairsAt}
 use Rattle.laws.specs.Rows.{areasIn, tablesIn, stateOf}
-use Rattle.mode.specs.Class.{classTable}
 use Rattle.header.specs.Told.{moreOf}
 use Rattle.header.specs.declared.Form as text
 use Rattle.homes.specs.Home.{homeAt}
@@ -114,8 +113,7 @@ pub record Columns (b ms es xs : List ℕ) : Type 0 where
   pub of-indexes : length xs ≡ 64
 
 -- what placing a pair asks
-pub record PlaceReady (l : Line) (g : Progress) (table bytes areas rows : List ℕ) : Type 0 where
-  pub classes : table ≡ classTable
+pub record PlaceReady (l : Line) (g : Progress) (bytes areas rows : List ℕ) : Type 0 where
   pub address : l .width ≤ 4
   pub content : l .bytes ≤ 256
   pub lent : l .bytes ≤ length bytes

@@ -2,7 +2,6 @@
 ghost use mathlib.Core.Path.{_≡_};
 ghost use Prim.Native.Nat.{_≤_};
 ghost use lib.ListN.{length};
-ghost use Rattle.mode.specs.Class.{classTable};
 ghost use Rattle.header.specs.Told.{formOf};
 ghost use Rattle.reading.specs.Onward.{Ready, Columns, GroupedTwo, Carried, onwardAt};
 use crate::turn::take_turn;
@@ -18,7 +17,6 @@ fn rounds(
     start: Progress,
     form: Form,
     ended: bool,
-    table: &[u8; 2048],
     a: &mut [u32],
     s: &[u32],
     bs: &mut [u8; 256],
@@ -29,12 +27,12 @@ fn rounds(
     fs: &mut [u8],
     rows: &mut [u32],
 ) -> Paired
-    requires { ⌜ (Ready (now t) (now a) start) × (length (now t) ≤ 65536) × (now table ≡ classTable) × (9216 ≤ length (now rows)) × (Columns (now bs) (now ms) (now es) (now xs)) ⌝ }
+    requires { ⌜ (Ready (now t) (now a) start) × (length (now t) ≤ 65536) × (9216 ≤ length (now rows)) × (Columns (now bs) (now ms) (now es) (now xs)) ⌝ }
     ensures { λ r. ⌜ (GroupedTwo (onwardAt ended (formOf form) (now (t .entry)) (now (a .entry)) (now (s .entry)) start (now (vs .entry)) (now (fs .entry)) (now (rows .entry))) r (now (vs .exit)) (now (fs .exit)) (now (rows .exit))) × (Carried (start .areas) (now (a .entry)) (now (fs .entry)) (now (a .exit)) (now (fs .exit))) ⌝ }
 {
     let mut g = start;
     loop {
-        let u = take_turn(t, g, form, ended, table, a, s, bs, ms, es, xs, vs, fs, rows);
+        let u = take_turn(t, g, form, ended, a, s, bs, ms, es, xs, vs, fs, rows);
         let Turn::Goes { going } = u else {
             return two_of(u);
         };
@@ -48,14 +46,13 @@ pub(crate) fn group_two(
     start: Progress,
     form: Form,
     ended: bool,
-    table: &[u8; 2048],
     areas: &mut [u32],
     symbols: &[u32],
     values: &mut [u8],
     masks: &mut [u8],
     rows: &mut [u32],
 ) -> Paired
-    requires { ⌜ (Ready (now t) (now areas) start) × (length (now t) ≤ 65536) × (now table ≡ classTable) × (9216 ≤ length (now rows)) ⌝ }
+    requires { ⌜ (Ready (now t) (now areas) start) × (length (now t) ≤ 65536) × (9216 ≤ length (now rows)) ⌝ }
     ensures { λ r. ⌜ (GroupedTwo (onwardAt ended (formOf form) (now (t .entry)) (now (areas .entry)) (now (symbols .entry)) start (now (values .entry)) (now (masks .entry)) (now (rows .entry))) r (now (values .exit)) (now (masks .exit)) (now (rows .exit))) × (Carried (start .areas) (now (areas .entry)) (now (masks .entry)) (now (areas .exit)) (now (masks .exit))) ⌝ }
 {
     let mut bs = [0u8; 256];
@@ -67,7 +64,6 @@ pub(crate) fn group_two(
         start,
         form,
         ended,
-        table,
         areas,
         symbols,
         &mut bs,

@@ -10,6 +10,8 @@ use header::Form;
 use planning::Paired;
 use planning::Progress;
 use planning::ending;
+use rooms::AREA_ROOM;
+use rooms::FIXUP_ROOM;
 
 // Group two, if there is one, over images of as many positions as there are.
 fn second(
@@ -30,13 +32,11 @@ fn second(
         return ending(g);
     }
     let n = g.positions;
-    let table = mode::class_table();
     group_two(
         t,
         g,
         form,
         ended,
-        &table,
         areas,
         symbols,
         &mut values[..n],
@@ -51,11 +51,11 @@ pub(crate) fn second_over(
     g: Progress,
     form: Form,
     ended: bool,
-    areas: &mut [u32; 448],
-    symbols: &[u32; 5120],
+    areas: &mut [u32; AREA_ROOM],
+    symbols: &[u32],
     values: &mut [u8],
     masks: &mut [u8],
-    rows: &mut [u32; 9216],
+    rows: &mut [u32; FIXUP_ROOM],
 ) -> Paired
     requires { ⌜ (Ready (now t) (now areas) g) × (length (now t) ≤ 65536) × (9216 ≤ length (now rows)) × (g .positions ≤ length (now values)) × (g .positions ≤ length (now masks)) ⌝ }
     ensures { λ r. ⌜ SecondIs ended (formOf form) (now (t .entry)) (now (areas .entry)) (now (symbols .entry)) g (now (values .entry)) (now (masks .entry)) (now (rows .entry)) r (now (areas .exit)) (now (values .exit)) (now (masks .exit)) (now (rows .exit)) ⌝ }

@@ -2,7 +2,6 @@
 ghost use mathlib.Core.Path.{_≡_};
 ghost use Prim.Native.Nat.{_≤_};
 ghost use lib.ListN.{length};
-ghost use Rattle.mode.specs.Class.{classTable};
 ghost use Rattle.homes.specs.Home.{homeAt};
 ghost use Rattle.header.specs.Told.{formOf};
 ghost use Rattle.reading.specs.Onward.{standingOf, filledOf, keptIn, Ready, PlaceReady, Columns, Advances, TurnIs, CarriedBy, onwardAt};
@@ -79,7 +78,6 @@ fn home_for(areas: &[u32], going: Progress, area: usize) -> Home
 fn place_body(
     line: Line,
     going: Progress,
-    table: &[u8; 2048],
     bytes: &[u8; 256],
     ms: &[u32; 64],
     es: &[u32; 64],
@@ -90,7 +88,7 @@ fn place_body(
     masks: &mut [u8],
     rows: &mut [u32],
 ) -> Turn
-    requires { ⌜ PlaceReady line going (now table) (now bytes) (now areas) (now rows) ⌝ }
+    requires { ⌜ PlaceReady line going (now bytes) (now areas) (now rows) ⌝ }
     ensures { λ r. ⌜ (Advances line going (now (bytes .entry)) (now (ms .entry)) (now (es .entry)) (now (xs .entry)) (now (areas .entry)) (now (symbols .entry)) (now (values .entry)) (now (masks .entry)) (now (rows .entry)) r (now (values .exit)) (now (masks .exit)) (now (rows .exit))) × (CarriedBy (going .areas) (now (areas .entry)) (now (masks .entry)) r (now (areas .exit)) (now (masks .exit))) ⌝ }
 {
     let s = going.standing;
@@ -100,7 +98,6 @@ fn place_body(
     let filled = filled_of(going, fixups, known_bits(areas, line.area));
     let home = home_for(areas, going, line.area);
     let r = place::place_pair(
-        table,
         line,
         home,
         bytes,
@@ -124,7 +121,6 @@ pub(crate) fn take_turn(
     g: Progress,
     form: Form,
     ended: bool,
-    table: &[u8; 2048],
     areas: &mut [u32],
     symbols: &[u32],
     bs: &mut [u8; 256],
@@ -135,7 +131,7 @@ pub(crate) fn take_turn(
     masks: &mut [u8],
     rows: &mut [u32],
 ) -> Turn
-    requires { ⌜ (Ready (now t) (now areas) g) × (length (now t) ≤ 65536) × (now table ≡ classTable) × (9216 ≤ length (now rows)) × (Columns (now bs) (now ms) (now es) (now xs)) ⌝ }
+    requires { ⌜ (Ready (now t) (now areas) g) × (length (now t) ≤ 65536) × (9216 ≤ length (now rows)) × (Columns (now bs) (now ms) (now es) (now xs)) ⌝ }
     ensures { λ r. ⌜ (TurnIs ended (formOf form) (now (t .entry)) (now (areas .entry)) (now (symbols .entry)) (g .next) (onwardAt ended (formOf form) (now (t .entry)) (now (areas .entry)) (now (symbols .entry)) g (now (values .entry)) (now (masks .entry)) (now (rows .entry))) r (now (values .exit)) (now (masks .exit)) (now (rows .exit))) × (Columns (now (bs .exit)) (now (ms .exit)) (now (es .exit)) (now (xs .exit))) × (CarriedBy (g .areas) (now (areas .entry)) (now (masks .entry)) r (now (areas .exit)) (now (masks .exit))) ⌝ }
 {
     let step = pair_step(t, g.next, form, ended, bs, ms, es, xs);
@@ -146,7 +142,6 @@ pub(crate) fn take_turn(
     place_body(
         line,
         going,
-        table,
         bs,
         ms,
         es,

@@ -5,6 +5,9 @@ ghost use Rattle.tables.specs.GroupOne.{refusalOf, foundOf, Grouped};
 use crate::rows::Added;
 use crate::rows::add_entry;
 use header::Form;
+use rooms::AREA_ROOM;
+use rooms::SYMBOL_ROOM;
+use rooms::TEXT_ROOM;
 use steps::EntryStep;
 use steps::entry_step;
 
@@ -54,18 +57,19 @@ fn found_of(areas: usize, symbols: usize, next: usize, stop: usize, more: bool) 
 }
 
 // Group one from a place on, behind a header that ended at head: the rows of its areas and symbols. Past the end of the text there is none.
-pub fn group_one(
+// Symbols for which no room was lent are counted and not written.
+pub fn group_over(
     t: &[u8],
     at: usize,
     head: usize,
     form: Form,
     ended: bool,
-    areas: &mut [u32; 448],
-    symbols: &mut [u32; 5120],
+    areas: &mut [u32; AREA_ROOM],
+    symbols: &mut [u32],
 ) -> Listed
     ensures { λ r. ⌜ Grouped ended (formOf form) (now (t .entry)) at head (now (areas .entry)) (now (symbols .entry)) (now (areas .exit)) (now (symbols .exit)) r ⌝ }
 {
-    if 65536 < t.len() {
+    if TEXT_ROOM < t.len() {
         return Listed::TooLong;
     }
     let mut f = found_of(0, 0, at, head, true);
@@ -94,4 +98,19 @@ pub fn group_one(
             return Listed::Done { found: f };
         }
     }
+}
+
+// The same with room for as many symbols as are not refused.
+pub fn group_one(
+    t: &[u8],
+    at: usize,
+    head: usize,
+    form: Form,
+    ended: bool,
+    areas: &mut [u32; AREA_ROOM],
+    symbols: &mut [u32; SYMBOL_ROOM],
+) -> Listed
+    ensures { λ r. ⌜ Grouped ended (formOf form) (now (t .entry)) at head (now (areas .entry)) (now (symbols .entry)) (now (areas .exit)) (now (symbols .exit)) r ⌝ }
+{
+    group_over(t, at, head, form, ended, areas, symbols)
 }

@@ -6,5 +6,6 @@ mod sizes;
 pub use group::Found;
 pub use group::Listed;
 pub use group::group_one;
+pub use group::group_over;
 pub use sizes::Sizes;
 pub use sizes::sizes_of;

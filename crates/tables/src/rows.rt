@@ -13,6 +13,9 @@ use crate::group::Found;
 use cells::put_u32;
 use entry_line::Addr;
 use entry_line::Entry;
+use rooms::AREA_ROOM;
+use rooms::AREA_WIDTH;
+use rooms::SYMBOL_WIDTH;
 
 // How many rows there are with the entry; or the number of the refusal.
 pub(crate) enum Added {
@@ -62,7 +65,7 @@ fn put_area(out: &mut [u32], row: usize, at: usize, len: usize, size: u32, flags
     requires { ⌜ (row ≤ 64) × (at + len ≤ 65536) ⌝ }
     ensures { λ _. ⌜ now (out .exit) ≡ sets (now (out .entry)) (7 * row) (at ∷ len ∷ size ∷ flags ∷ given (addrOf addr) ∷ orZero (addrOf addr) ∷ 0 ∷ []) ⌝ }
 {
-    let i = 7 * row;
+    let i = AREA_WIDTH * row;
     put3(out, i, at as u32, len as u32, size);
     put3(out, i + 3, flags, is_given(addr), or_zero(addr));
     put_u32(out, i + 6, 0)
@@ -81,7 +84,7 @@ fn put_symbol(
     requires { ⌜ (row ≤ 1024) × (at + len ≤ 65536) × (area ≤ 64) ⌝ }
     ensures { λ _. ⌜ now (out .exit) ≡ sets (now (out .entry)) (5 * row) (at ∷ len ∷ flag «is_ref» ∷ value ∷ area ∷ []) ⌝ }
 {
-    let i = 5 * row;
+    let i = SYMBOL_WIDTH * row;
     put3(out, i, at as u32, len as u32, flag_of(is_ref));
     put_u32(out, i + 3, value);
     put_u32(out, i + 4, area as u32)
@@ -102,8 +105,8 @@ pub(crate) fn add_entry(
     entry: Entry,
     p: usize,
     f: Found,
-    areas: &mut [u32; 448],
-    symbols: &mut [u32; 5120],
+    areas: &mut [u32; AREA_ROOM],
+    symbols: &mut [u32],
 ) -> Added
     requires { ⌜ (Placed 65536 p entry) × (f .areas ≤ 64) × (f .symbols ≤ 1024) ⌝ }
     ensures { λ r. ⌜ Adds entry p (f .areas) (f .symbols) (now (areas .entry)) (now (symbols .entry)) r (now (areas .exit)) (now (symbols .exit)) ⌝ }

@@ -7,6 +7,7 @@ ghost use Rattle.laws.specs.Rows.{areaAt};
 ghost use lib.Dec.{leb};
 ghost use Rattle.tables.specs.Sizes.{SizesAre, few};
 use cells::wide;
+use rooms::AREA_ROOM;
 
 // How many areas are kept, and the positions of their images.
 pub struct Sizes {
@@ -53,7 +54,7 @@ fn sizes_in(areas: &[u32], n: usize) -> Sizes
 }
 
 // The kept ones of the first n rows of an array of 64.
-pub fn sizes_of(areas: &[u32; 448], n: usize) -> Sizes
+pub fn sizes_of(areas: &[u32; AREA_ROOM], n: usize) -> Sizes
     ensures { λ r. ⌜ SizesAre (now (areas .entry)) (few n) r ⌝ }
 {
     if n <= 64 {

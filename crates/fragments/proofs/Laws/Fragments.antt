@@ -1,10 +1,10 @@
 -- The fragments of an R line.
 -- Assumes nothing.
 use Prim.Native.Nat.{ℕ, _+_, _-_, _<_, _≤_}
-use mathlib.Core.Path.{_≡_}
+use mathlib.Core.Path.{_≡_, refl, sym}
 use mathlib.Core.Bool.{Bool}
 use mathlib.Core.List.{List}
-use lib.ListN.{set}
+use lib.ListN.{length, set}
 use borrow.Author.Needs.{needs}
 use Rattle.format.specs.Bytes.{isBlank}
 use Rattle.format.specs.Got.{Got, is, isnt}
@@ -15,7 +15,11 @@ use Rattle.numbers.specs.Told.{told}
 use Rattle.numbers.specs.declared.Num.{Num}
 use Rattle.numbers.specs.declared.Num.the-variants.{Is, No}
 use Rattle.numbers.proofs.Laws.Numbers.{space-no, space-is}
+use Rattle.scan.proofs.Laws.Kinds.{span-start, span-end}
 use Rattle.fields.specs.Told.{halt}
+use Rattle.usual_fragment.specs.Usual.{UsualIs}
+use Rattle.usual_fragment.specs.declared.Usual.{Usual}
+use Rattle.usual_fragment.specs.declared.Usual.the-variants as usual
 use Rattle.fragments.specs.Fragments.{toldFragment, FragmentsRead}
 use Rattle.fragments.specs.declared.fragments.FragmentAt.{FragmentAt}
 use Rattle.fragments.specs.declared.fragments.FragmentAt.the-variants.{Fragment, NoFragment}
@@ -58,6 +62,16 @@ module _ (radix : ℕ) (big : Bool) (s : List ℕ) (at : ℕ) {a : ℕ} (e : a �
         pub fragment-5 : {y d : ℕ} → o ≡ Is y d → is (record { mode = v; entry = w; index = y }) d ≡ fragment radix big s at
         unfolding fragment
         fragment-5 l = rw (space-is s at e h, ← f, g, ← i, j, ← k, l)
+
+-- `next_fragment`
+pub fragment-past : (radix : ℕ) (big : Bool) (s : List ℕ) (at : ℕ) → length s ≤ at → isnt 4 at ≡ fragment radix big s at
+fragment-past radix big s at h = fragment-1 radix big s at (span-end (span-start isBlank s at) h) refl
+
+module _ (radix : ℕ) (big : Bool) (s : List ℕ) (at : ℕ) {u : Usual} (w : UsualIs radix big s at u) where
+  pub fragment-usual : {m e i q : ℕ} → u ≡ usual.Is m e i q → is (record { mode = m; entry = e; index = i }) q ≡ fragment radix big s at
+  fragment-usual g = sym (rw g at (w .says))
+
+pub ruleset following = (needs, fragment-past, fragment-usual)
 
 pub ruleset fragmenting = (needs, fragment-1, fragment-2, fragment-3, fragment-4, fragment-5)
 

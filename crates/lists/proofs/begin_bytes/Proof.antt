@@ -1,7 +1,14 @@
+use Rattle.lists.proofs.Laws.Begun.{beginning}
 use Prim.Native.Nat.{_-_}
-use Rattle.lists.proofs.Laws.Begun.{Beginning, beginning}
+use Rattle.lists.proofs.Laws.Begun.{Beginning}
 use Rattle.lists.proofs.begin_bytes.Statement.{statement}
 use Rattle.lists.proofs.begin_bytes.Tie as tie
+use Rattle.lists.proofs.begin_bytes.Reads as reads
+use Rattle.lists.proofs.begin_bytes.Lts as lts
+use Rattle.lists.proofs.hex_of.Reads as hex-of-reads
+use Rattle.lists.proofs.last_byte.Reads as last-byte-reads
+use Rattle.lists.proofs.put_byte.Reads as put-byte-reads
+use Rattle.lists.proofs.reach_of.Reads as reach-of-reads
 
 abbrev Inv-loop : tie.InvT-loop
 Inv-loop t at radix out₀ last n₀ p₀ out n p = Beginning radix t at last out₀ out n p
@@ -72,8 +79,26 @@ loop-less c = search beginning
 loop-again : tie.Need-loop-again Inv-loop μ-loop
 loop-again c = search beginning
 
+last-byte-requires : tie.Need-last-byte-requires Inv-loop μ-loop
+last-byte-requires c κs = search beginning
+
+cast-put-byte : tie.Need-cast-put-byte Inv-loop μ-loop
+cast-put-byte c = search beginning
+
+put-byte-requires : tie.Need-put-byte-requires Inv-loop μ-loop
+put-byte-requires c κs = search beginning
+
+add-t26 : tie.Need-add-t26 Inv-loop μ-loop
+add-t26 c = search beginning
+
+add-t27 : tie.Need-add-t27 Inv-loop μ-loop
+add-t27 c = search beginning
+
 returns-4 : tie.Need-returns-4 Inv-loop μ-loop
 returns-4 c = search beginning
+
+returns-5 : tie.Need-returns-5 Inv-loop μ-loop
+returns-5 c = search beginning
 
 pub begin-bytes-spec : {M : Type 1} → statement M
 begin-bytes-spec =
@@ -102,4 +127,10 @@ begin-bytes-spec =
     add-p
     loop-less
     loop-again
-    returns-4)
+    last-byte-requires
+    cast-put-byte
+    put-byte-requires
+    add-t26
+    add-t27
+    returns-4
+    returns-5)

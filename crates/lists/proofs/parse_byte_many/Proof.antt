@@ -19,8 +19,8 @@ sub-k c = search listing
 loop-holds : tie.Need-loop-holds Inv-loop μ-loop
 loop-holds c = search listing
 
-next-byte-requires : tie.Need-next-byte-requires Inv-loop μ-loop
-next-byte-requires c κs = search listing
+following-requires : tie.Need-following-requires Inv-loop μ-loop
+following-requires c κs = search listing
 
 enum-known-value : tie.Need-enum-known-value Inv-loop μ-loop
 enum-known-value c = search listing
@@ -61,7 +61,7 @@ parse-byte-many-spec =
     begin-bytes-requires
     sub-k
     loop-holds
-    next-byte-requires
+    following-requires
     enum-known-value
     enum-told
     returns

@@ -14,8 +14,8 @@ abbrev μ-loop : tie.MeasureT-loop
 loop-holds : tie.Need-loop-holds Inv-loop μ-loop
 loop-holds c = search fragments
 
-fragment-at-requires : tie.Need-fragment-at-requires Inv-loop μ-loop
-fragment-at-requires c κs = search fragments
+next-fragment-requires : tie.Need-next-fragment-requires Inv-loop μ-loop
+next-fragment-requires c κs = search fragments
 
 enum-known-mode : tie.Need-enum-known-mode Inv-loop μ-loop
 enum-known-mode c = search fragments
@@ -57,7 +57,7 @@ parse-reloc-frag-spec =
     Inv-loop
     μ-loop
     loop-holds
-    fragment-at-requires
+    next-fragment-requires
     enum-known-mode
     enum-told
     returns

@@ -8,10 +8,10 @@ use Rattle.reading.proofs.group_two.rounds.Statement.{statement}
 use Rattle.reading.proofs.group_two.rounds.Tie as tie
 
 abbrev Inv-loop : tie.InvT-loop
-Inv-loop t form ended table a₀ s bs₀ ms₀ es₀ xs₀ vs₀ fs₀ rows₀ g₀ a bs ms es xs vs fs rows g = (Rounds ended (formOf form) t a₀ s g₀ vs₀ fs₀ rows₀ g a vs fs rows) × (Columns bs ms es xs)
+Inv-loop t form ended a₀ s bs₀ ms₀ es₀ xs₀ vs₀ fs₀ rows₀ g₀ a bs ms es xs vs fs rows g = (Rounds ended (formOf form) t a₀ s g₀ vs₀ fs₀ rows₀ g a vs fs rows) × (Columns bs ms es xs)
 
 abbrev μ-loop : tie.MeasureT-loop
-μ-loop t form ended table a₀ s bs₀ ms₀ es₀ xs₀ vs₀ fs₀ rows₀ g₀ a bs ms es xs vs fs rows g = length t - g .next
+μ-loop t form ended a₀ s bs₀ ms₀ es₀ xs₀ vs₀ fs₀ rows₀ g₀ a bs ms es xs vs fs rows g = length t - g .next
 
 loop-holds : tie.Need-loop-holds Inv-loop μ-loop
 loop-holds c = (search rounds, search lending)

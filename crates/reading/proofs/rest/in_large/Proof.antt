@@ -1,4 +1,5 @@
-use Rattle.reading.proofs.Laid.{sizing, blank-large}
+use Rattle.reading.proofs.Laid.{blank-large}
+use Rattle.reading.proofs.Nothing.{sizing}
 use Rattle.reading.proofs.rest.in_large.Statement.{statement}
 use Rattle.reading.proofs.rest.in_large.Tie as tie
 
@@ -11,7 +12,7 @@ slice-aggregate-over-images-2 c = search sizing
 over-images-requires : tie.Need-over-images-requires
 over-images-requires c κs =
     let x1 = c .before .before .before .before .before .before .before .before .before .before in
-    let a = x1 .before .before .before .before in
+    let a = x1 .before .before .before .before .before in
     (a .pre .0, a .pre .1, blank-large (a .pre .0), blank-large (a .pre .0))
 
 same-length : tie.Need-same-length

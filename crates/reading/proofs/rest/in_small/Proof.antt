@@ -1,4 +1,4 @@
-use Rattle.reading.proofs.Laid.{sizing}
+use Rattle.reading.proofs.Nothing.{sizing}
 use Rattle.reading.proofs.rest.in_small.Statement.{statement}
 use Rattle.reading.proofs.rest.in_small.Tie as tie
 

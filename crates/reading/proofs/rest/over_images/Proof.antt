@@ -10,7 +10,7 @@ starting-requires c κs = search rests
 second-over-requires : tie.Need-second-over-requires
 second-over-requires c κs =
     let st = c .before .before .before .before in
-    let a = st .before .before .before .before .before .before .before .before .before in
+    let a = st .before .before .before .before .before .before .before .before .before .before in
     (start-ready (a .args .found) (a .pre .0) (st .starting .ensures), a .pre .0 .short, fresh-rows, start-long (a .args .found) (a .pre .0) (st .starting .ensures) (a .pre .2), start-long (a .args .found) (a .pre .0) (st .starting .ensures) (a .pre .3))
 
 enum-known-two : tie.Need-enum-known-two
@@ -32,7 +32,7 @@ returns : tie.Need-returns
 returns c =
     let v = c .before .before .before .before .before .before .before in
     let st = v .before .before .before .before .before in
-    let a = st .before .before .before .before .before .before .before .before .before in
+    let a = st .before .before .before .before .before .before .before .before .before .before in
     rest-refused (a .args .found) (a .pre .0) (st .starting .ensures) (a .pre .2) (a .pre .3) (v .second-over .ensures .0) (c .before .enum-told .given .1) (c .refuse-two .ensures) _
 
 counts-of-requires : tie.Need-counts-of-requires
@@ -87,7 +87,7 @@ returns-2 c =
     let w = n .before .before in
     let v = w .before .before .before .before .before .before in
     let st = v .before .before .before .before .before in
-    let a = st .before .before .before .before .before .before .before .before .before in
+    let a = st .before .before .before .before .before .before .before .before .before .before in
     rest-done (a .args .found) (a .pre .0) (st .starting .ensures) (a .pre .2) (a .pre .3) (v .second-over .ensures .0) (w .two .given .1) (n .counts-of .ensures) (a .pre .1) (v .second-over .ensures .1) zeros-9216 (l .lay-tables .ensures) (i .lay-images .ensures) (c .accept .ensures)
 
 pub over-images-spec : {M : Type 1} → statement M

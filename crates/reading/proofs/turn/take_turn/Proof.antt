@@ -34,7 +34,7 @@ place-body-requires c κs =
     let s = q .before in
     let x1 = s .before .before .before .before .before .before .before .before .before .before in
     let a = x1 .before in
-    turn-ready (a .args .form) (a .pre .0) (s .pair-step .ensures .0) (q .plan-of .ensures) (p .plan .given .1) (a .pre .4) (ready-low (a .pre .0) (a .pre .1)) (a .pre .2) (a .pre .3)
+    turn-ready (a .args .form) (a .pre .0) (s .pair-step .ensures .0) (q .plan-of .ensures) (p .plan .given .1) (a .pre .3) (ready-low (a .pre .0) (a .pre .1)) (a .pre .2)
 
 same-length : tie.Need-same-length
 same-length c = search turns
@@ -57,9 +57,9 @@ returns-2 c =
     let x1 = s .before .before .before .before .before .before .before .before .before .before in
     let a = x1 .before in
     let low = ready-low (a .pre .0) (a .pre .1) in (
-      turn-places (a .args .form) (a .pre .0) (s .pair-step .ensures .0) (q .plan-of .ensures) (p .plan .given .1) (a .pre .4) low _ (b .place-body .ensures .0),
-      columns-then _ _ _ (a .pre .4) (s .pair-step .ensures .1),
-      turn-carries (a .args .form) (a .pre .0) (s .pair-step .ensures .0) (q .plan-of .ensures) (p .plan .given .1) (a .pre .4) low (b .place-body .ensures .1),
+      turn-places (a .args .form) (a .pre .0) (s .pair-step .ensures .0) (q .plan-of .ensures) (p .plan .given .1) (a .pre .3) low _ (b .place-body .ensures .0),
+      columns-then _ _ _ (a .pre .3) (s .pair-step .ensures .1),
+      turn-carries (a .args .form) (a .pre .0) (s .pair-step .ensures .0) (q .plan-of .ensures) (p .plan .given .1) (a .pre .3) low (b .place-body .ensures .1),
     )
 
 pub take-turn-spec : {M : Type 1} → statement M

@@ -50,6 +50,9 @@ returns-3 c = search adding
 returns-4 : tie.Need-returns-4
 returns-4 c = search adding
 
+same-length : tie.Need-same-length
+same-length c = search adding
+
 returns-5 : tie.Need-returns-5
 returns-5 c = search adding
 
@@ -73,4 +76,5 @@ add-entry-spec =
     room-requires-3
     returns-3
     returns-4
+    same-length
     returns-5)

@@ -1,6 +1,6 @@
-use Rattle.fragments.proofs.Laws.Modes.{moding}
-use Rattle.fragments.proofs.modes.parse_extended_mode.Statement.{statement}
-use Rattle.fragments.proofs.modes.parse_extended_mode.Tie as tie
+use Rattle.modes.proofs.Laws.{moding}
+use Rattle.modes.proofs.parse_extended_mode.Statement.{statement}
+use Rattle.modes.proofs.parse_extended_mode.Tie as tie
 
 any-mode-requires : tie.Need-any-mode-requires
 any-mode-requires c κs = search moding

@@ -1,6 +1,6 @@
-use Rattle.fragments.proofs.Laws.Modes.{moding}
-use Rattle.fragments.proofs.modes.any_mode.Statement.{statement}
-use Rattle.fragments.proofs.modes.any_mode.Tie as tie
+use Rattle.modes.proofs.Laws.{moding}
+use Rattle.modes.proofs.any_mode.Statement.{statement}
+use Rattle.modes.proofs.any_mode.Tie as tie
 
 parse-byte-requires : tie.Need-parse-byte-requires
 parse-byte-requires c κs = search moding
