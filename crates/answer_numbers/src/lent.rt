@@ -1,4 +1,12 @@
 // What a caller has to lend for a reading.
+use rooms::AREA_ROOM;
+use rooms::AREA_WIDTH;
+use rooms::FIXUP_ROOM;
+use rooms::FIXUP_WIDTH;
+use rooms::IMAGE_ROOM;
+use rooms::SYMBOL_ROOM;
+use rooms::SYMBOL_WIDTH;
+use rooms::TEXT_ROOM;
 ghost use mathlib.Core.Path.{_≡_};
 ghost use Rattle.answer_numbers.specs.Numbers.{rooms, widths};
 
@@ -26,9 +34,9 @@ pub fn row_widths() -> Widths
     ensures { λ r. ⌜ r ≡ widths ⌝ }
 {
     Widths {
-        area: 7,
-        symbol: 5,
-        fixup: 9,
+        area: AREA_WIDTH,
+        symbol: SYMBOL_WIDTH,
+        fixup: FIXUP_WIDTH,
     }
 }
 
@@ -37,11 +45,11 @@ pub fn lent_rooms() -> Rooms
     ensures { λ r. ⌜ r ≡ rooms ⌝ }
 {
     Rooms {
-        text: 65536,
-        areas: 448,
-        symbols: 5120,
-        values: 65536,
-        masks: 65536,
-        fixups: 9216,
+        text: TEXT_ROOM,
+        areas: AREA_ROOM,
+        symbols: SYMBOL_ROOM,
+        values: IMAGE_ROOM,
+        masks: IMAGE_ROOM,
+        fixups: FIXUP_ROOM,
     }
 }

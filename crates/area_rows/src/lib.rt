@@ -8,6 +8,7 @@ ghost use Rattle.row_parts.specs.Parts.{nameIn};
 ghost use Rattle.area_rows.specs.Known.{narrowed};
 use cells::put_u32;
 use cells::wide;
+use rooms::AREA_WIDTH;
 use row_parts::area_cell;
 use row_parts::part;
 
@@ -76,5 +77,5 @@ pub fn put_known(areas: &mut [u32], i: usize, known: usize)
     if areas.len() / 7 < i {
         return;
     }
-    put_u32(areas, 7 * i + 6, narrow(known))
+    put_u32(areas, AREA_WIDTH * i + 6, narrow(known))
 }

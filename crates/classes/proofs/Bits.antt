@@ -8,12 +8,7 @@ use mir.Val.{Fits}
 use mir.Syntax.{w32}
 use lib.Dec.{lit≤}
 use borrow.Author.Needs.{needs}
-use Rattle.format.specs.Mode.{Addr11, Addr16, Addr19, Addr24, Byte, Class, Other, classNumberOf, classOf, sizeOf, onSite, gives, givesOf}
-use Rattle.mode.specs.Class.{toldClass}
-use Rattle.mode.specs.declared.class.JumpType.{JumpType}
-use Rattle.mode.specs.declared.class.JumpType.the-variants as jump
-
--- ------------------------------------------------------------------ `gives_fixup`, `size_on_site`, `class_number`
+use Rattle.format.specs.Mode.{Addr11, Addr16, Addr19, Addr24, Byte, Class, Other, classOf, sizeOf, onSite, gives, givesOf}
 
 pub gives-is : (m : ℕ) {c : Class} → c ≡ classOf m → {g : Bool} → g ≡ givesOf c m → g ≡ gives m
 unfolding gives
@@ -34,31 +29,4 @@ pub size-is : (m : ℕ) {c : Class} → c ≡ classOf m → {n : ℕ} → n ≡ 
 unfolding onSite
 size-is m ec en = rw ec at en
 
-module _ (m : ℕ) {j : JumpType} (e : toldClass j ≡ classOf m) where
-  pub number-addr19 : j ≡ jump.Addr19 → 0 ≡ classNumberOf m
-  unfolding classNumberOf
-  number-addr19 g = rw (← e, g)
-
-  pub number-addr11 : j ≡ jump.Addr11 → 1 ≡ classNumberOf m
-  unfolding classNumberOf
-  number-addr11 g = rw (← e, g)
-
-  pub number-addr24 : j ≡ jump.Addr24 → 2 ≡ classNumberOf m
-  unfolding classNumberOf
-  number-addr24 g = rw (← e, g)
-
-  pub number-addr16 : j ≡ jump.Addr16 → 3 ≡ classNumberOf m
-  unfolding classNumberOf
-  number-addr16 g = rw (← e, g)
-
-  pub number-byte : j ≡ jump.Byte → 4 ≡ classNumberOf m
-  unfolding classNumberOf
-  number-byte g = rw (← e, g)
-
-  pub number-other : j ≡ jump.Other → 5 ≡ classNumberOf m
-  unfolding classNumberOf
-  number-other g = rw (← e, g)
-
 pub ruleset measuring = (needs, gives-is, size-fits, size-is)
-
-pub ruleset numbering = (needs, number-addr19, number-addr11, number-addr24, number-addr16, number-byte, number-other)

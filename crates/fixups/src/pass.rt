@@ -3,6 +3,7 @@ use crate::walk::fixup_rows;
 use checks::Checked;
 use checks::Fixed;
 use checks::check_pair;
+use rooms::FIXUP_ROOM;
 use sites::Site;
 ghost use mathlib.Core.Path.{_≡_};
 ghost use mathlib.Core.Bool.{_&&_};
@@ -62,7 +63,7 @@ fn checked_rows(
     requires { ⌜ 64 ≤ length (now ns) ⌝ }
     ensures { λ r. ⌜ PairRows (isReady site && leb 9216 (length (now (rows .entry)))) (lineAt (now (ms .entry)) (now (es .entry)) (now (xs .entry)) (now (areas .entry)) (now (symbols .entry)) (now (ns .entry)) site (now (wk .entry)) (fixupsIn (now (rows .entry)) (site .filled .fixups))) (now (rows .entry)) r (now (rows .exit)) ⌝ }
 {
-    if rows.len() < 9216 {
+    if rows.len() < FIXUP_ROOM {
         return Rowed::Misfit;
     }
     match check_pair(site, ms, es, xs, areas, symbols, wk) {

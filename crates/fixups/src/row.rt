@@ -6,6 +6,7 @@ use checks::one_more;
 use classes::size_on_site;
 use references::Reference;
 use references::Refers;
+use rooms::FIXUP_WIDTH;
 use sites::Site;
 ghost use Prim.Native.Nat.{_≤_, _<_};
 ghost use lib.ListN.{length};
@@ -26,7 +27,7 @@ fn put_row(
     ensures { λ _. ⌜ OneRow k (fixup home p size mode t n) (now (rows .entry)) (now (rows .exit)) ⌝ }
 {
     let row = [home, p, size, mode, t.outside, t.what, t.length, t.value, n];
-    copy_u32s(rows, 9 * k, &row, 9);
+    copy_u32s(rows, FIXUP_WIDTH * k, &row, FIXUP_WIDTH);
 }
 
 // The row of the i-th fragment: 12, 13, or one row more.

@@ -1,6 +1,7 @@
 // Fixup rows in text order to rows grouped by area.
 use cells::at;
 use cells::copy_u32s;
+use rooms::FIXUP_WIDTH;
 ghost use mathlib.Core.Path.{_≡_};
 ghost use Prim.Native.Nat.{_≤_, _+_, _*_};
 ghost use lib.ListN.{length, getD};
@@ -20,7 +21,7 @@ fn row_to(rows: &[u32], i: usize, id: u32, out: &mut [u32], p: usize) -> usize
     requires { ⌜ (getD (now rows) (9 * i) 0 ≡ id → p + 9 ≤ length (now out)) ⌝ }
     ensures { λ r. ⌜ Stored (rowFor id (fixupRow (now (rows .entry)) i)) p (now (out .entry)) r (now (out .exit)) ⌝ }
 {
-    let s = 9 * i;
+    let s = FIXUP_WIDTH * i;
     if at(rows, s) == id {
         copy_u32s(out, p, &rows[s..], 9);
         return p + 9;

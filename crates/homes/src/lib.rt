@@ -1,5 +1,6 @@
 // Where an area's image is: found once, it serves all pairs of the area.
 use cells::at;
+use rooms::AREA_WIDTH;
 ghost use mathlib.Core.Path.{_≡_};
 ghost use Prim.Native.Nat.{_≤_, _<_};
 ghost use lib.Dec.{leb};
@@ -21,8 +22,8 @@ fn size_at(areas: &[u32], j: usize) -> u32
     requires { ⌜ j < 64 ⌝ }
     ensures { λ r. ⌜ r ≡ keptSize (areaAt (now (areas .entry)) j) ⌝ }
 {
-    let size = at(areas, 7 * j + 2);
-    let flags = at(areas, 7 * j + 3);
+    let size = at(areas, AREA_WIDTH * j + 2);
+    let flags = at(areas, AREA_WIDTH * j + 3);
     if flags / 32 % 2 == 1 { size } else { 0 }
 }
 

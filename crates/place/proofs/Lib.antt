@@ -1,11 +1,7 @@
-pub mod WorkLaws
 pub mod Order
 pub mod WorkedLaws
 pub mod PlainPairLaws
-pub mod SiteLaws
 pub mod PairLaws
-pub mod CellLaws
-pub mod CellOf
 pub mod Use
 pub mod Unique
 pub mod KnownRows

@@ -18,21 +18,6 @@ use Rattle.format.specs.WorkLine.{beyond, inLine, stepAt, stepAll}
 use Rattle.format.specs.WorkLine as defs
 use Rattle.images.specs.Image.{imageWalk}
 use Rattle.fixups.specs.Walk.{fixupsWalk}
-use Rattle.place.specs.Work.{turnOf, turns}
-
--- 10 for each fragment and then its step, or 10 for all and then all steps: the same
-pub merged : {A : Type 0} (fm : Form) (n place k : ℕ) (fs : List Fragment) (d : defs.Worked) (f : defs.Worked → Outcome A)
-    → andThen (fold (inLine (fm .addressLength) n place) k fs) (λ j. f (stepAll fm fs d)) ≡ andThen (turns (fm .addressLength) (fm .big) n place fs d) f
-unfolding fold inLine stepAll turns turnOf
-merged fm n place k [] d f = refl
-merged fm n place k (x ∷ xs) d f = go (beyond (fm .addressLength) n x) (merged fm n place (suc k) xs (pick (leb (fm .addressLength) (x .entry)) (stepAt (fm .big) x d) d) f)
-  where
-    go : (b : Bool) → andThen (fold (inLine (fm .addressLength) n place) (suc k) xs) (λ j. f (stepAll fm xs (pick (leb (fm .addressLength) (x .entry)) (stepAt (fm .big) x d) d)))
-        ≡ andThen (turns (fm .addressLength) (fm .big) n place xs (pick (leb (fm .addressLength) (x .entry)) (stepAt (fm .big) x d) d)) f
-        → andThen (andThen (pick b (refused 10 place) (fine (suc k))) (λ s. fold (inLine (fm .addressLength) n place) s xs)) (λ j. f (stepAll fm xs (pick (leb (fm .addressLength) (x .entry)) (stepAt (fm .big) x d) d)))
-        ≡ andThen (andThen (pick b (refused 10 place) (fine (pick (leb (fm .addressLength) (x .entry)) (stepAt (fm .big) x d) d))) (λ e. turns (fm .addressLength) (fm .big) n place xs e)) f
-    go true ih = refl
-    go false ih = ih
 
 -- a walk's state: images gone over, and the fixups
 unfoldable pub imaged : Walk → (n entry position : ℕ) → State → List Fixup → State

@@ -15,8 +15,6 @@ use Rattle.format.specs.Tables.{lastIndex}
 use Rattle.laws.specs.Rows.{stateOf}
 use Rattle.cells.proofs.Both.{both-true}
 use Rattle.homes.specs.declared.Home.{Home}
-use Rattle.classes.specs.Named.{names}
-use Rattle.classes.proofs.Named.{named-by}
 use Rattle.sites.specs.declared.Line.{Line}
 use Rattle.sites.specs.declared.Filled.{Filled}
 use Rattle.sites.specs.declared.Site.{Site}
@@ -25,48 +23,19 @@ use Rattle.sites.proofs.Fitting.{Counted, counted}
 use Rattle.images.proofs.CountLaws.{known-still}
 use Rattle.place.specs.declared.pair.Placed.{Placed}
 use Rattle.place.specs.declared.pair.Placed.the-variants.{Done, Misfit}
-use Rattle.place.specs.declared.site.Found.{Found}
-use Rattle.place.specs.declared.site.Found.the-variants as at
-use Rattle.place.specs.Site.{imageFits, siteAt, foundBy, found}
-use Rattle.place.specs.Pair.{sitePair, pairIn, keptFits, fits, Placeable, PairPlaced}
+use Rattle.located.specs.declared.Found.{Found}
+use Rattle.located.specs.declared.Found.the-variants as at
+use Rattle.located.specs.Site.{imageFits, foundBy, found, keptFits}
+use Rattle.located.proofs.Sites.{Sited, sited, unkept-by, misfit-by}
+use Rattle.place.specs.Pair.{sitePair, pairIn, fits, Placeable, PairPlaced}
 
--- where a pair of a kept area goes
-pub record Sited (table ms : List ℕ) (start size : ℕ) (l : Line) (n : Filled) (o : Option ℕ) (s : Site) : Type 0 where
-  pub id : ℕ
-  pub ranks : o ≡ some id
-  pub fitting : imageFits table ms start size (l .fragments) ≡ true
-  pub is : s ≡ siteAt l n id start size
-
-unlike-found : {C : Type 0} (s : Site) (f : Found) → f ≡ at.At s → (f ≡ at.Misfit → C) × (f ≡ at.Unkept → C)
-unlike-found s f e = (λ g. let z : _≡_ {A = ℕ} 0 1 = cc in absurd (omega arith), λ g. let z : _≡_ {A = ℕ} 0 1 = cc in absurd (omega arith))
-
-module _ (table ms : List ℕ) (start size : ℕ) (l : Line) (n : Filled) where
-  sited-if : (id : ℕ) (s : Site) (b : Bool) → imageFits table ms start size (l .fragments) ≡ b → pick b (at.At (siteAt l n id start size)) at.Misfit ≡ at.At s → Sited table ms start size l n (some id) s
-  sited-if id s true e h = record { id = id; ranks = refl; fitting = e; is = cc }
-  sited-if id s false e h = unlike-found s at.Misfit h .0 refl
-
-  pub sited : (o : Option ℕ) (s : Site) → foundBy table ms start size l n o ≡ at.At s → Sited table ms start size l n o s
-  sited none s h = unlike-found s at.Unkept h .1 refl
-  sited (some id) s h = sited-if id s (imageFits table ms start size (l .fragments)) refl h
-
-  -- an area that is not kept has no rank, and one that does not fit says so
-  pub unkept-by : (o : Option ℕ) (b : Bool) → imageFits table ms start size (l .fragments) ≡ b → foundBy table ms start size l n o ≡ at.Unkept → o ≡ none
-  unkept-by none b e h = refl
-  unkept-by (some id) true e h = let g = rw e at h in let z : _≡_ {A = ℕ} 0 1 = cc in absurd (omega arith)
-  unkept-by (some id) false e h = let g = rw e at h in let z : _≡_ {A = ℕ} 0 1 = cc in absurd (omega arith)
-
-  pub misfit-by : (o : Option ℕ) (b : Bool) → imageFits table ms start size (l .fragments) ≡ b → foundBy table ms start size l n o ≡ at.Misfit → keptFits table ms start size (l .fragments) o ≡ false
-  misfit-by none b e h = let z : _≡_ {A = ℕ} 0 1 = cc in absurd (omega arith)
-  misfit-by (some id) true e h = let g = rw e at h in let z : _≡_ {A = ℕ} 0 1 = cc in absurd (omega arith)
-  misfit-by (some id) false e h = e
-
-module _ (table : List ℕ) (l : Line) (h : Home) (bs ms es xs areas symbols : List ℕ) (n : Filled) (vs masks rs : List ℕ)
+module _ (l : Line) (h : Home) (bs ms es xs areas symbols : List ℕ) (n : Filled) (vs masks rs : List ℕ)
     {c : Bool} (ec : c ≡ (eqb (h .area) (l .area) && (lineFits l (length bs) && filledFits n (length rs)))) where
-  fits-is : (b : Bool) → keptFits table ms (h .start) (h .size) (l .fragments) (lastIndex (h .id)) ≡ b → fits table l h bs ms n rs ≡ (c && b)
+  fits-is : (b : Bool) → keptFits (h .start) (h .size) (lastIndex (h .id)) ≡ b → fits l h bs n rs ≡ (c && b)
   unfolding fits
   fits-is b e = rw (e, ec) (sym (and-assoc (eqb (h .area) (l .area)) (lineFits l (length bs) && filledFits n (length rs)) b))
 
-  pub pair-misfit : not c ≡ true → PairPlaced (fits table l h bs ms n rs) (pairIn l h bs ms es xs areas symbols n (stateOf vs masks rs (n .fixups))) (n .known) vs masks rs Misfit vs masks rs
+  pub pair-misfit : not c ≡ true → PairPlaced (fits l h bs n rs) (pairIn l h bs ms es xs areas symbols n (stateOf vs masks rs (n .fixups))) (n .known) vs masks rs Misfit vs masks rs
   pair-misfit k = record {
     says = λ radix end. rw (fits-is _ refl, not-true c k);
     few = omega arith;
@@ -79,15 +48,15 @@ module _ (table : List ℕ) (l : Line) (h : Home) (bs ms es xs areas symbols : L
     facts : Counted l n (length bs) (length rs)
     facts = counted l n (length bs) (length rs) (both-true (eqb (h .area) (l .area)) _ (sym ec ∙ not-false c k) .1)
 
-    module _ {f : Found} (ef : f ≡ found table ms h l n) where
-      found-is : {g : Found} → f ≡ g → foundBy table ms (h .start) (h .size) l n (lastIndex (h .id)) ≡ g
+    module _ {f : Found} (ef : f ≡ found h l n) where
+      found-is : {g : Found} → f ≡ g → foundBy (h .start) (h .size) l n (lastIndex (h .id)) ≡ g
       unfolding found
       found-is e = sym ef ∙ e
 
-      pub pair-unkept : f ≡ at.Unkept → {known : ℕ} → known ≡ n .known → PairPlaced (fits table l h bs ms n rs) (pairIn l h bs ms es xs areas symbols n (stateOf vs masks rs (n .fixups))) (n .known) vs masks rs (Done (n .fixups) known) vs masks rs
+      pub pair-unkept : f ≡ at.Unkept → {known : ℕ} → known ≡ n .known → PairPlaced (fits l h bs n rs) (pairIn l h bs ms es xs areas symbols n (stateOf vs masks rs (n .fixups))) (n .known) vs masks rs (Done (n .fixups) known) vs masks rs
       unfolding pairIn
       pair-unkept e d =
-          let o : lastIndex (h .id) ≡ none = unkept-by table ms (h .start) (h .size) l n (lastIndex (h .id)) _ refl (found-is e) in
+          let o : lastIndex (h .id) ≡ none = unkept-by (h .start) (h .size) l n (lastIndex (h .id)) _ refl (found-is e) in
           record {
             says = λ radix end. rw (fits-is true (rw o), not-false c k, o);
             few = facts .fixups;
@@ -96,9 +65,9 @@ module _ (table : List ℕ) (l : Line) (h : Home) (bs ms es xs areas symbols : L
             bits = known-still (n .known) masks d;
           }
 
-      pub pair-nowhere : f ≡ at.Misfit → PairPlaced (fits table l h bs ms n rs) (pairIn l h bs ms es xs areas symbols n (stateOf vs masks rs (n .fixups))) (n .known) vs masks rs Misfit vs masks rs
+      pub pair-nowhere : f ≡ at.Misfit → PairPlaced (fits l h bs n rs) (pairIn l h bs ms es xs areas symbols n (stateOf vs masks rs (n .fixups))) (n .known) vs masks rs Misfit vs masks rs
       pair-nowhere e =
-          let u : keptFits table ms (h .start) (h .size) (l .fragments) (lastIndex (h .id)) ≡ false = misfit-by table ms (h .start) (h .size) l n (lastIndex (h .id)) _ refl (found-is e) in
+          let u : keptFits (h .start) (h .size) (lastIndex (h .id)) ≡ false = misfit-by (h .start) (h .size) l n (lastIndex (h .id)) _ refl (found-is e) in
           record {
             says = λ radix end. rw (fits-is false u, not-false c k);
             few = omega arith;
@@ -108,24 +77,23 @@ module _ (table : List ℕ) (l : Line) (h : Home) (bs ms es xs areas symbols : L
           }
 
       module _ {s : Site} (g : f ≡ at.At s) where
-        here : Sited table ms (h .start) (h .size) l n (lastIndex (h .id)) s
-        here = sited table ms (h .start) (h .size) l n (lastIndex (h .id)) s (found-is g)
+        here : Sited (h .start) (h .size) l n (lastIndex (h .id)) s
+        here = sited (h .start) (h .size) l n (lastIndex (h .id)) s (found-is g)
 
-        both : (leb (h .start + h .size) 65536 ≡ true) × (names table ms 0 (l .fragments) ≡ true)
+        inside : leb (h .start + h .size) 65536 ≡ true
         unfolding imageFits
-        both = both-true _ _ (here .fitting)
+        inside = here .fitting
 
-        pub pair-placeable : Placeable table s bs ms rs
+        pub pair-placeable : Placeable s bs rs
         pair-placeable = rw (here .is) (record {
           ready = record {
             line = facts .line;
             areas = facts .areas;
             symbols = facts .symbols;
             fixups = facts .fixups;
-            inside = leb-true (h .start + h .size) 65536 (both .0);
+            inside = leb-true (h .start + h .size) 65536 inside;
             numbers = omega arith;
           };
-          named = named-by table ms (l .fragments) (both .1);
           lent = facts .bytes;
           room = facts .space;
         })
@@ -135,7 +103,7 @@ module _ (table : List ℕ) (l : Line) (h : Home) (bs ms es xs areas symbols : L
         site-pair radix end = rw (here .is, here .ranks)
 
         pub pair-done : {r : Placed} {vs′ masks′ rs′ : List ℕ} → PairPlaced true (sitePair s bs ms es xs areas symbols (stateOf vs masks rs (s .filled .fixups))) (s .filled .known) vs masks rs r vs′ masks′ rs′
-            → PairPlaced (fits table l h bs ms n rs) (pairIn l h bs ms es xs areas symbols n (stateOf vs masks rs (n .fixups))) (n .known) vs masks rs r vs′ masks′ rs′
+            → PairPlaced (fits l h bs n rs) (pairIn l h bs ms es xs areas symbols n (stateOf vs masks rs (n .fixups))) (n .known) vs masks rs r vs′ masks′ rs′
         pair-done a = record {
           says = λ radix end. rw (fits-is true (rw (here .ranks) (here .fitting)), not-false c k, ← site-pair radix end) (a .says radix end);
           few = a .few;

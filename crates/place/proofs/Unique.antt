@@ -108,16 +108,16 @@ module _ (fit : Bool) (o : (radix end : ℕ) → Outcome State) (known : ℕ) (v
   placed-once Misfit q a b = still Misfit q refl a b
 
 -- rows that fit have room for the bound
-fits-room : (table : List ℕ) (l : Line) (h : Home) (bs ms : List ℕ) (n : Filled) (rows : List ℕ) → fits table l h bs ms n rows ≡ true → 9216 ≤ length rows
+fits-room : (l : Line) (h : Home) (bs : List ℕ) (n : Filled) (rows : List ℕ) → fits l h bs n rows ≡ true → 9216 ≤ length rows
 unfolding fits
-fits-room table l h bs ms n rows e =
+fits-room l h bs n rows e =
     let f = both-true (eqb (h .area) (l .area)) _ e .1 in
     counted l n (length bs) (length rows) (both-true (lineFits l (length bs) && filledFits n (length rows)) _ f .0) .space
 
 -- `place_pair`: a lent buffer keeps its length
-pub one-pair : (table : List ℕ) (l : Line) (h : Home) (bs ms : List ℕ) (n : Filled) (o : (radix end : ℕ) → Outcome State) (known : ℕ) (vs masks rows : List ℕ) (r q : Placed) (vs₁ ms₁ rows₁ vs₂ ms₂ rows₂ : List ℕ)
+pub one-pair : (l : Line) (h : Home) (bs : List ℕ) (n : Filled) (o : (radix end : ℕ) → Outcome State) (known : ℕ) (vs masks rows : List ℕ) (r q : Placed) (vs₁ ms₁ rows₁ vs₂ ms₂ rows₂ : List ℕ)
     → length rows₁ ≡ length rows → length rows₂ ≡ length rows
-    → PairPlaced (fits table l h bs ms n rows) o known vs masks rows r vs₁ ms₁ rows₁ → PairPlaced (fits table l h bs ms n rows) o known vs masks rows q vs₂ ms₂ rows₂
+    → PairPlaced (fits l h bs n rows) o known vs masks rows r vs₁ ms₁ rows₁ → PairPlaced (fits l h bs n rows) o known vs masks rows q vs₂ ms₂ rows₂
     → Same r vs₁ ms₁ rows₁ q vs₂ ms₂ rows₂
-one-pair table l h bs ms n o known vs masks rows r q vs₁ ms₁ rows₁ vs₂ ms₂ rows₂ l₁ l₂ a b =
-    placed-once (fits table l h bs ms n rows) o known vs masks rows (fits-room table l h bs ms n rows) vs₁ ms₁ rows₁ vs₂ ms₂ rows₂ l₁ l₂ r q a b
+one-pair l h bs n o known vs masks rows r q vs₁ ms₁ rows₁ vs₂ ms₂ rows₂ l₁ l₂ a b =
+    placed-once (fits l h bs n rows) o known vs masks rows (fits-room l h bs n rows) vs₁ ms₁ rows₁ vs₂ ms₂ rows₂ l₁ l₂ r q a b

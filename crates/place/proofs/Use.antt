@@ -12,20 +12,17 @@ use borrow.Author.Tests.{eq-eqb, le-leb}
 use Rattle.format.specs.Tables.{Area, lastIndex, total, rank, offset}
 use Rattle.format.specs.Placing.{State, extent, placeLine, placePair}
 use Rattle.laws.specs.Rows.{areasIn, tablesIn}
-use Rattle.mode.specs.Class.{classTable}
 use Rattle.homes.specs.declared.Home.{Home}
 use Rattle.sites.specs.declared.Line.{Line}
 use Rattle.sites.specs.declared.Filled.{Filled}
 use Rattle.homes.specs.Home.{homeBy, homeAt}
 use Rattle.homes.proofs.Use.{home-own, by-rank}
 use Rattle.sites.specs.Site.{lineFits, filledFits}
-use Rattle.place.specs.Site.{imageFits}
-use Rattle.place.specs.Pair.{pairOf, pairAt, pairIn, keptFits, fits}
-use Rattle.classes.proofs.Named.{table-names}
+use Rattle.located.specs.Site.{imageFits, keptFits}
+use Rattle.place.specs.Pair.{pairOf, pairAt, pairIn, fits}
 
 -- what a reading knows when it places a pair: 5 to 9 are ruled out, and the lent rows have room
-pub record Fit (table : List ℕ) (l : Line) (h : Home) (bs areas : List ℕ) (n : Filled) (rows : List ℕ) : Type 0 where
-  pub classes : table ≡ classTable
+pub record Fit (l : Line) (h : Home) (bs areas : List ℕ) (n : Filled) (rows : List ℕ) : Type 0 where
   pub home : h ≡ homeAt areas (n .areas) (l .area)
   pub address : l .width ≤ 4
   pub content : l .bytes ≤ 256
@@ -44,18 +41,17 @@ total-two zero (x ∷ xs) = omega arith
 total-two (suc i) [] = omega arith
 total-two (suc i) (x ∷ xs) = omega (arith, total-two i xs)
 
-kept-fits : (table ms : List ℕ) (areas : List Area) (i c : ℕ) {h : Home} → table ≡ classTable → total areas ≤ 65536 → (o : Option ℕ) → h ≡ homeBy i (offset areas i) (extent areas i) o
-    → keptFits table ms (h .start) (h .size) c (lastIndex (h .id)) ≡ true
+kept-fits : (areas : List Area) (i : ℕ) {h : Home} → total areas ≤ 65536 → (o : Option ℕ) → h ≡ homeBy i (offset areas i) (extent areas i) o
+    → keptFits (h .start) (h .size) (lastIndex (h .id)) ≡ true
 unfolding imageFits offset extent
-kept-fits table ms areas i c e s none d = rw d
-kept-fits table ms areas i c e s (some k) d =
-    rw (d, add-one, e, le-leb (total (take i areas) + total (take 1 (drop i areas))) 65536 (omega (arith, total-two i areas)), table-names ms 0 c)
+kept-fits areas i s none d = rw d
+kept-fits areas i s (some k) d = rw (d, add-one, le-leb (total (take i areas) + total (take 1 (drop i areas))) 65536 (omega (arith, total-two i areas)))
 
-module _ {table : List ℕ} {l : Line} {h : Home} {bs areas : List ℕ} {n : Filled} {rows : List ℕ} (f : Fit table l h bs areas n rows) where
+module _ {l : Line} {h : Home} {bs areas : List ℕ} {n : Filled} {rows : List ℕ} (f : Fit l h bs areas n rows) where
   -- then the pair fits
-  pub fits-when : (ms : List ℕ) → fits table l h bs ms n rows ≡ true
+  pub fits-when : fits l h bs n rows ≡ true
   unfolding fits lineFits filledFits
-  fits-when ms =
+  fits-when =
       rw (
         eq-eqb (h .area) (l .area) (home-own areas (n .areas) (l .area) (f .home)),
         le-leb (l .width) 4 (f .address),
@@ -66,7 +62,7 @@ module _ {table : List ℕ} {l : Line} {h : Home} {bs areas : List ℕ} {n : Fil
         le-leb (n .symbols) 1024 (f .symbols),
         le-leb (n .fixups) 1024 (f .made),
         le-leb 9216 (length rows) (f .room),
-        kept-fits table ms (areasIn areas (n .areas)) (l .area) (l .fragments) (f .classes) (f .sizes) (rank 0 (areasIn areas (n .areas)) (l .area)) (by-rank areas (n .areas) (l .area) (f .home) (f .listed)),
+        kept-fits (areasIn areas (n .areas)) (l .area) (f .sizes) (rank 0 (areasIn areas (n .areas)) (l .area)) (by-rank areas (n .areas) (l .area) (f .home) (f .listed)),
       )
 
   -- and it is placed as the definition has it

@@ -19,8 +19,8 @@ use Rattle.format.specs.WorkLine as defs
 use Rattle.laws.specs.Rows.{fixupsIn, stateOf}
 use Rattle.sites.specs.declared.Site.{Site}
 use Rattle.sites.specs.Columns.{fragmentsIn}
-use Rattle.sites.specs.Site.{Short, Ready, isReady, madeAt}
-use Rattle.sites.proofs.Fitting.{ready-true, tables-all}
+use Rattle.sites.specs.Site.{Ready, isReady, madeAt}
+use Rattle.sites.proofs.Fitting.{line-true, ready-true, tables-all}
 use Rattle.images.specs.Image.{imageOf, moved, Written}
 use Rattle.images.proofs.CountLaws.{known-still}
 use Rattle.images.proofs.Use.{Walked, imaged-when}
@@ -30,11 +30,12 @@ use Rattle.fixups.specs.Walk.{siteOf, lineAt}
 use Rattle.fixups.specs.Pass.{PairRows}
 use Rattle.place.specs.declared.pair.Placed.{Placed}
 use Rattle.place.specs.declared.pair.Placed.the-variants.{Done, Stopped, Misfit}
-use Rattle.place.specs.declared.work_line.Worked.{Worked}
-use Rattle.place.specs.declared.work_line.Worked.the-variants.{Beyond, Numbers}
-use Rattle.place.specs.Work.{lineOf, allTurns, madeBy, Whole}
+use Rattle.work.specs.declared.Worked.{Worked}
+use Rattle.work.specs.declared.Worked.the-variants.{Beyond, Numbers}
+use Rattle.work.specs.Work.{lineOf, allTurns, madeBy, Whole, WorkIs}
 use Rattle.place.specs.Pair.{formOf, tablesOf, pairAt, afterWork, sitePair, workedPair, Prepared, Placeable, PairPlaced}
-use Rattle.place.proofs.Order.{merged, imaged, split}
+use Rattle.work.proofs.Use.{merged, whole-by}
+use Rattle.place.proofs.Order.{imaged, split}
 
 -- ------------------------------------------------------------------ `place_worked`: q is what the work line answered
 
@@ -103,29 +104,25 @@ module _ (s : Site) (ms es xs areas symbols ns wv wm wk vs masks rs : List ℕ) 
 
 pub ruleset relocating = (needs, pair-beyond, pair-unfit, pair-refused, pair-walked)
 
--- ------------------------------------------------------------------ `work_line`
+-- ------------------------------------------------------------------ `place_fragments`
 
-module _ (s : Site) (bs ms es : List ℕ) (h : s .line .bytes ≤ length bs) {wv wm wk : List ℕ}
-    (ev : wv ≡ padded (s .line .width) (s .line .bytes) (take (s .line .bytes) bs)) (em : wm ≡ padded (s .line .width) (s .line .bytes) (replicate (s .line .bytes) 255))
-    (ek : wk ≡ padded (s .line .width) (s .line .bytes) (replicate (s .line .bytes) 1)) (ns : List ℕ)
-    {q : Worked} {wv′ wm′ wk′ ns′ : List ℕ} (t : Whole (allTurns (s .line) ms es (lineOf wv wm wk ns 0)) (s .line .fragments) q wv′ wm′ wk′ ns′) where
-  pub from-fresh : Whole (allTurns (s .line) ms es (fresh (s .line .width) (take (s .line .bytes) bs))) (s .line .fragments) q wv′ wm′ wk′ ns′
-  unfolding lineOf fresh workLine
-  from-fresh = rw (length-take-le (s .line .bytes) bs h, ← ev, ← em, ← ek) t
-
-  pub prepared : Short (s .line) → Prepared s bs ms es q ns′ wv′ wm′ wk′
+module _ (s : Site) (bs ms es rs : List ℕ) (p : Placeable s bs rs) where
+  pub prepared-by : {q : Worked} {wv wm wk ns : List ℕ} → Whole (allTurns (s .line) ms es (fresh (s .line .width) (take (s .line .bytes) bs))) (s .line .fragments) q wv wm wk ns → Prepared s bs ms es q ns wv wm wk
   unfolding pairAt placeAt allTurns afterWork
-  prepared f = record {
+  prepared-by t = record {
     turned = λ xs areas symbols st radix place.
-        rw (length-take-le (s .line .bytes) bs h) (merged (formOf radix (s .line)) (s .line .bytes) place 0 (fragmentsIn ms es xs (s .line .fragments)) (fresh (s .line .width) (take (s .line .bytes) bs)) _
+        rw (length-take-le (s .line .bytes) bs (p .lent)) (merged (formOf radix (s .line)) (s .line .bytes) place 0 (fragmentsIn ms es xs (s .line .fragments)) (fresh (s .line .width) (take (s .line .bytes) bs)) _
         ∙ ap (λ (o : Outcome defs.Worked). andThen o (λ d. walk (walkBy (tablesOf areas symbols s) place (s .id) (s .start) (s .size) (fragmentsIn ms es xs (s .line .fragments)) d) (s .line .width + s .line .bytes) 0 (s .line .address) st))
-        (sym (from-fresh .says xs place)));
-    few = omega (arith, t .few, f .fragments);
+        (sym (t .says xs place)));
+    few = omega (arith, t .few, p .ready .line .fragments);
   }
 
-pub ruleset preparing = (needs, prepared, from-fresh)
+  module _ {wv₀ wm₀ wk₀ ns₀ : List ℕ} {q : Worked} {wv wm wk ns : List ℕ} (w : WorkIs (s .line) bs ms es wv₀ wm₀ wk₀ ns₀ q wv wm wk ns) where
+    pub prepared : Prepared s bs ms es q ns wv wm wk
+    prepared = prepared-by (whole-by w (line-true (p .ready .line) (p .lent)))
 
--- ------------------------------------------------------------------ `place_fragments`
+    pub few-made : madeBy q ≤ 64
+    few-made = prepared .few
 
 pub pair-processed : (s : Site) (bs ms es xs areas symbols vs masks rs : List ℕ) {q : Worked} {wv wm wk ns : List ℕ} → Prepared s bs ms es q ns wv wm wk
     → {r : Placed} {vs′ masks′ rs′ : List ℕ} → PairPlaced true (workedPair s q ms es xs areas symbols ns wv wm wk (stateOf vs masks rs (s .filled .fixups))) (s .filled .known) vs masks rs r vs′ masks′ rs′
@@ -139,7 +136,4 @@ pair-processed s bs ms es xs areas symbols vs masks rs t a = record {
   bits = a .bits;
 }
 
-pub ready-short : {table : List ℕ} {s : Site} {bs ms rs : List ℕ} → Placeable table s bs ms rs → Short (s .line)
-ready-short p = p .ready .line
-
-pub ruleset processing = (needs, ready-short, pair-processed)
+pub ruleset processing = (needs, few-made, prepared, pair-processed)

@@ -1,5 +1,2 @@
-pub mod Work
-pub mod Site
 pub mod Pair
-pub mod Cell
 pub mod Kept

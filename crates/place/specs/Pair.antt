@@ -8,8 +8,7 @@ use mathlib.Core.Option.{Option, none, some}
 use lib.Dec.{eqb}
 use lib.ListN.{length, take, drop}
 use Rattle.format.specs.Lists.{pick}
-use Rattle.format.specs.Header.{Form}
-use Rattle.format.specs.Pairs.{Content, placed}
+use Rattle.format.specs.Pairs.{placed}
 use Rattle.format.specs.Outcome.{Outcome, fine, refused, andThen}
 use Rattle.format.specs.Tables.{Tables, lastIndex}
 use Rattle.format.specs.Placing.{State, walk, walkBy, placeAt, placePair}
@@ -21,18 +20,12 @@ use Rattle.place.specs.declared.pair.Placed.{Placed}
 use Rattle.place.specs.declared.pair.Placed.the-variants.{Done, Stopped, Misfit}
 use Rattle.sites.specs.declared.Site.{Site}
 use Rattle.sites.specs.Columns.{fragmentsIn}
-use Rattle.place.specs.declared.work_line.Worked.{Worked}
-use Rattle.classes.specs.Named.{Named}
+use Rattle.work.specs.declared.Worked.{Worked}
 use Rattle.images.specs.Image.{moved}
-use Rattle.place.specs.Work as work
+use Rattle.work.specs.Work as work
+pub use Rattle.work.specs.Work.{formOf, contentOf}
 use Rattle.sites.specs.Site.{lineFits, filledFits, Ready}
-use Rattle.place.specs.Site.{imageFits, siteAt}
-
-abbrev pub formOf : ℕ → Line → Form
-formOf radix l = record { radix = radix; big = l .big; addressLength = l .width }
-
-abbrev pub contentOf : Line → List ℕ → Content
-contentOf l bs = record { address = l .address; bytes = take (l .bytes) bs }
+use Rattle.located.specs.Site.{siteAt, keptFits}
 
 -- the definition at the lent rows; neither the radix nor the place where the pair ends matters
 unfoldable pub pairOf : Line → (bs ms es xs areas symbols : List ℕ) → Filled → State → (radix end : ℕ) → Outcome State
@@ -70,15 +63,9 @@ pairBy l n start size bs ms es xs areas symbols st radix (some id) = pairAt (sit
 unfoldable pub pairIn : Line → Home → (bs ms es xs areas symbols : List ℕ) → Filled → State → (radix end : ℕ) → Outcome State
 pairIn l h bs ms es xs areas symbols n st radix end = pairBy l n (h .start) (h .size) bs ms es xs areas symbols st radix (lastIndex (h .id))
 
--- a kept area's image ends within the bound, and the table has the classes of the pair's modes
-abbrev pub keptFits : (table ms : List ℕ) (start size fragments : ℕ) → Option ℕ → Bool
-keptFits table ms start size c none = true
-keptFits table ms start size c (some id) = imageFits table ms start size c
-
--- whether a pair can be placed: the home is its area's, 5 to 9 are ruled out, the lent rows have room, and the table has the classes of the pair's modes
-unfoldable pub fits : (table : List ℕ) → Line → Home → (bs ms : List ℕ) → Filled → (rows : List ℕ) → Bool
-fits table l h bs ms n rows =
-    eqb (h .area) (l .area) && ((lineFits l (length bs) && filledFits n (length rows)) && keptFits table ms (h .start) (h .size) (l .fragments) (lastIndex (h .id)))
+-- whether a pair can be placed: the home is its area's, 5 to 9 are ruled out, and the lent rows have room
+unfoldable pub fits : Line → Home → (bs : List ℕ) → Filled → (rows : List ℕ) → Bool
+fits l h bs n rows = eqb (h .area) (l .area) && ((lineFits l (length bs) && filledFits n (length rows)) && keptFits (h .start) (h .size) (lastIndex (h .id)))
 
 -- what an answer says, with the images and the rows as they are then
 abbrev pub told : Placed → (vs ms rows : List ℕ) → Option (Outcome State)
@@ -110,9 +97,8 @@ pub record Prepared (s : Site) (bs ms es : List ℕ) (r : Worked) (ns wv wm wk :
   pub few : work.madeBy r ≤ 64
 
 -- what is known of a pair that is placed
-pub record Placeable (table : List ℕ) (s : Site) (bs ms rows : List ℕ) : Type 0 where
+pub record Placeable (s : Site) (bs rows : List ℕ) : Type 0 where
   pub ready : Ready s
-  pub named : Named table ms (s .line .fragments)
   pub lent : s .line .bytes ≤ length bs
   pub room : 9216 ≤ length rows
 

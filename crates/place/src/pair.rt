@@ -1,24 +1,24 @@
 // A T and R pair of any area: one of a kept area is placed, any other changes nothing.
-use crate::site::Found;
-use crate::site::home_fits;
-use crate::site::locate;
-use crate::work_line::Worked;
-use crate::work_line::work_line;
 use cells::wide;
 use fixups::Rowed;
 use fixups::pair_rows;
 use homes::Home;
 use images::write_image;
 use images::write_plain;
+use located::Found;
+use located::home_fits;
+use located::locate;
 use sites::Filled;
 use sites::Line;
 use sites::Site;
+use work::Worked;
+use work::work_line;
 ghost use mathlib.Core.Bool.{true};
 ghost use Prim.Native.Nat.{_≤_};
 ghost use lib.ListN.{length};
 ghost use Rattle.laws.specs.Rows.{stateOf};
 ghost use Rattle.sites.specs.Site.{Ready};
-ghost use Rattle.place.specs.Work.{madeBy};
+ghost use Rattle.work.specs.Work.{madeBy};
 ghost use Rattle.place.specs.Pair.{fits, workedPair, sitePair, pairIn, Placeable, PairPlaced};
 
 // How many fixup rows there are then, and the known bits of the area; a refusal's number with the T line's place; or that the numbers do not fit.
@@ -64,7 +64,6 @@ fn place_worked(
 
 // A pair with fragments, on a work line of its own.
 fn place_fragments(
-    table: &[u8; 2048],
     site: Site,
     bs: &[u8],
     ms: &[u32],
@@ -76,14 +75,14 @@ fn place_fragments(
     masks: &mut [u8],
     rows: &mut [u32],
 ) -> Placed
-    requires { ⌜ Placeable (now table) site (now bs) (now ms) (now rows) ⌝ }
+    requires { ⌜ Placeable site (now bs) (now rows) ⌝ }
     ensures { λ r. ⌜ PairPlaced true (sitePair site (now (bs .entry)) (now (ms .entry)) (now (es .entry)) (now (xs .entry)) (now (areas .entry)) (now (symbols .entry)) (stateOf (now (values .entry)) (now (masks .entry)) (now (rows .entry)) (site .filled .fixups))) (site .filled .known) (now (values .entry)) (now (masks .entry)) (now (rows .entry)) r (now (values .exit)) (now (masks .exit)) (now (rows .exit)) ⌝ }
 {
     let mut wv = [0; 260];
     let mut wm = [0; 260];
     let mut wk = [0; 260];
     let mut ns = [0; 64];
-    let worked = work_line(table, site, bs, ms, es, &mut wv, &mut wm, &mut wk, &mut ns);
+    let worked = work_line(site.line, bs, ms, es, &mut wv, &mut wm, &mut wk, &mut ns);
     place_worked(
         site,
         worked,
@@ -104,7 +103,6 @@ fn place_fragments(
 
 // A pair of a kept area: one without fragments has no fixups, and its content is laid down as it is.
 fn process_relocs(
-    table: &[u8; 2048],
     site: Site,
     bs: &[u8],
     ms: &[u32],
@@ -116,31 +114,18 @@ fn process_relocs(
     masks: &mut [u8],
     rows: &mut [u32],
 ) -> Placed
-    requires { ⌜ Placeable (now table) site (now bs) (now ms) (now rows) ⌝ }
+    requires { ⌜ Placeable site (now bs) (now rows) ⌝ }
     ensures { λ r. ⌜ PairPlaced true (sitePair site (now (bs .entry)) (now (ms .entry)) (now (es .entry)) (now (xs .entry)) (now (areas .entry)) (now (symbols .entry)) (stateOf (now (values .entry)) (now (masks .entry)) (now (rows .entry)) (site .filled .fixups))) (site .filled .known) (now (values .entry)) (now (masks .entry)) (now (rows .entry)) r (now (values .exit)) (now (masks .exit)) (now (rows .exit)) ⌝ }
 {
     if site.line.fragments == 0 {
         let known = write_plain(site, bs, values, masks);
         return Placed::Done(site.filled.fixups, known);
     }
-    place_fragments(
-        table,
-        site,
-        bs,
-        ms,
-        es,
-        xs,
-        areas,
-        symbols,
-        values,
-        masks,
-        rows,
-    )
+    place_fragments(site, bs, ms, es, xs, areas, symbols, values, masks, rows)
 }
 
 // One T and R pair, given its area's home: a refusal or a misfit changes nothing, and neither does a pair of an area that is not kept. Another area's home is a misfit.
 pub fn place_pair(
-    table: &[u8; 2048],
     line: Line,
     home: Home,
     bs: &[u8],
@@ -154,16 +139,15 @@ pub fn place_pair(
     masks: &mut [u8],
     rows: &mut [u32],
 ) -> Placed
-    ensures { λ r. ⌜ PairPlaced (fits (now (table .entry)) line home (now (bs .entry)) (now (ms .entry)) filled (now (rows .entry))) (pairIn line home (now (bs .entry)) (now (ms .entry)) (now (es .entry)) (now (xs .entry)) (now (areas .entry)) (now (symbols .entry)) filled (stateOf (now (values .entry)) (now (masks .entry)) (now (rows .entry)) (filled .fixups))) (filled .known) (now (values .entry)) (now (masks .entry)) (now (rows .entry)) r (now (values .exit)) (now (masks .exit)) (now (rows .exit)) ⌝ }
+    ensures { λ r. ⌜ PairPlaced (fits line home (now (bs .entry)) filled (now (rows .entry))) (pairIn line home (now (bs .entry)) (now (ms .entry)) (now (es .entry)) (now (xs .entry)) (now (areas .entry)) (now (symbols .entry)) filled (stateOf (now (values .entry)) (now (masks .entry)) (now (rows .entry)) (filled .fixups))) (filled .known) (now (values .entry)) (now (masks .entry)) (now (rows .entry)) r (now (values .exit)) (now (masks .exit)) (now (rows .exit)) ⌝ }
 {
     if !home_fits(home, line, filled, bs.len(), rows.len()) {
         return Placed::Misfit;
     }
-    match locate(table, ms, home, line, filled) {
+    match locate(home, line, filled) {
         Found::Unkept => Placed::Done(filled.fixups, wide(filled.known)),
         Found::Misfit => Placed::Misfit,
         Found::At(site) => process_relocs(
-            table,
             site,
             bs,
             ms,

@@ -3,6 +3,9 @@ ghost use mathlib.Core.Path.{_≡_};
 ghost use lib.ListN.{length};
 ghost use Rattle.records.specs.Walking.{GateIs, LentRoom, roomFor};
 use reading::Answer;
+use rooms::FIXUP_ROOM;
+use rooms::IMAGE_ROOM;
+use rooms::SYMBOL_ROOM;
 
 // A text that is read, or its refusal.
 pub(crate) enum Gate {
@@ -52,10 +55,10 @@ pub(crate) fn admit(t: &[u8]) -> Gate
     ensures { λ r. ⌜ GateIs (now (t .entry)) r ⌝ }
 {
     let mut areas = [0u32; 512];
-    let mut symbols = [0u32; 5120];
-    let mut values = [0u8; 65536];
-    let mut masks = [0u8; 65536];
-    let mut fixups = [0u32; 9216];
+    let mut symbols = [0u32; SYMBOL_ROOM];
+    let mut values = [0u8; IMAGE_ROOM];
+    let mut masks = [0u8; IMAGE_ROOM];
+    let mut fixups = [0u32; FIXUP_ROOM];
     admit_with(
         t,
         &mut areas,

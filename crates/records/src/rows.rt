@@ -10,6 +10,7 @@ ghost use Rattle.records.specs.Told.{held};
 ghost use Rattle.records.specs.Storing.{counted, lineNumbers, Low, StoredOne};
 use crate::PairCounts;
 use cells::put_u32;
+use rooms::PAIR_WIDTH;
 
 // A T and R pair: the T's place, its address and area, and how many content bytes and fragments it has.
 pub(crate) struct PairLine {
@@ -44,7 +45,7 @@ fn put_pair(out: &mut [u32], n: PairCounts, l: PairLine)
     requires { ⌜ Low n l ⌝ }
     ensures { λ _. ⌜ now (out .exit) ≡ sets (now (out .entry)) (pairColumns * n .pairs) (lineNumbers n l) ⌝ }
 {
-    let i = 7 * n.pairs;
+    let i = PAIR_WIDTH * n.pairs;
     put3(out, i, l.place as u32, l.address, l.area);
     put4(
         out,

@@ -3,6 +3,7 @@ use cells::at;
 use cells::wide;
 use classes::gives_fixup;
 use homes::home_at;
+use rooms::SYMBOL_WIDTH;
 use sites::Filled;
 ghost use mathlib.Core.Path.{_≡_};
 ghost use mathlib.Core.Option.{Option, some};
@@ -69,16 +70,16 @@ fn symbol_ref(areas: &[u32], n: usize, symbols: &[u32], i: usize) -> Refers
     requires { ⌜ i < 4294967296 ⌝ }
     ensures { λ r. ⌜ ((place : ℕ) → told place r ≡ symbolRef (areasIn (now (areas .entry)) (few n)) place (some (symbolAt (now (symbols .entry)) i))) ⌝ }
 {
-    let value = at(symbols, 5 * i + 3);
-    if at(symbols, 5 * i + 2) == 1 {
+    let value = at(symbols, SYMBOL_WIDTH * i + 3);
+    if at(symbols, SYMBOL_WIDTH * i + 2) == 1 {
         return Refers::To(Reference {
             outside: 1,
-            what: at(symbols, 5 * i),
-            length: at(symbols, 5 * i + 1),
+            what: at(symbols, SYMBOL_WIDTH * i),
+            length: at(symbols, SYMBOL_WIDTH * i + 1),
             value: value,
         });
     }
-    let area = wide(at(symbols, 5 * i + 4));
+    let area = wide(at(symbols, SYMBOL_WIDTH * i + 4));
     to_area(home_of(areas, n, area), value)
 }
 

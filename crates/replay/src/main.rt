@@ -9,9 +9,14 @@ mod sum;
 
 use reading::Answer;
 use record::Told;
+use rooms::AREA_ROOM;
+use rooms::FIXUP_ROOM;
+use rooms::IMAGE_ROOM;
+use rooms::INPUT_ROOM;
+use rooms::SYMBOL_ROOM;
 
 // One byte more than the longest text.
-const ROOM: usize = 65537;
+const ROOM: usize = INPUT_ROOM;
 
 // How many answers were held to the recorded ones, and how many were not the same.
 struct Tally {
@@ -23,11 +28,11 @@ struct Tally {
 fn read(
     ended: bool,
     text: &[u8],
-    areas: &mut [u32; 448],
-    symbols: &mut [u32; 5120],
-    values: &mut [u8; 65536],
-    masks: &mut [u8; 65536],
-    fixups: &mut [u32; 9216],
+    areas: &mut [u32; AREA_ROOM],
+    symbols: &mut [u32; SYMBOL_ROOM],
+    values: &mut [u8; IMAGE_ROOM],
+    masks: &mut [u8; IMAGE_ROOM],
+    fixups: &mut [u32; FIXUP_ROOM],
 ) -> Answer {
     if ended {
         reading::read_ended(text, areas, symbols, values, masks, fixups)
@@ -40,11 +45,11 @@ fn read(
 fn same(
     answer: Answer,
     told: Told,
-    areas: &[u32; 448],
-    symbols: &[u32; 5120],
-    values: &[u8; 65536],
-    masks: &[u8; 65536],
-    fixups: &[u32; 9216],
+    areas: &[u32; AREA_ROOM],
+    symbols: &[u32; SYMBOL_ROOM],
+    values: &[u8; IMAGE_ROOM],
+    masks: &[u8; IMAGE_ROOM],
+    fixups: &[u32; FIXUP_ROOM],
 ) -> bool {
     match answer {
         Answer::Refusal { number, place } => record::refused(told, number, place),
@@ -63,11 +68,11 @@ fn same(
 
 // Whether the answer to a text is the recorded one.
 fn holds(told: Told, ended: bool, text: &[u8]) -> bool {
-    let mut areas = [0u32; 448];
-    let mut symbols = [0u32; 5120];
-    let mut values = [0u8; 65536];
-    let mut masks = [0u8; 65536];
-    let mut fixups = [0u32; 9216];
+    let mut areas = [0u32; AREA_ROOM];
+    let mut symbols = [0u32; SYMBOL_ROOM];
+    let mut values = [0u8; IMAGE_ROOM];
+    let mut masks = [0u8; IMAGE_ROOM];
+    let mut fixups = [0u32; FIXUP_ROOM];
     let answer = read(
         ended,
         text,

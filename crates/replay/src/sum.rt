@@ -1,6 +1,9 @@
 // The sum over an answer: it turns by seven bits before each number is added.
 use reading::Counts;
 use reading::Verdict;
+use rooms::AREA_WIDTH;
+use rooms::FIXUP_WIDTH;
+use rooms::SYMBOL_WIDTH;
 
 fn wide(x: u8) -> u64 {
     x as u64
@@ -43,17 +46,17 @@ pub(crate) fn verdict_and_counts(verdict: Verdict, counts: Counts) -> u64 {
 
 // The numbers in the rows of so many areas; 0 for more than there can be.
 pub(crate) fn area_numbers(n: usize) -> usize {
-    if n <= 64 { n * 7 } else { 0 }
+    if n <= 64 { n * AREA_WIDTH } else { 0 }
 }
 
 // The numbers in the rows of so many symbols; 0 for more than there can be.
 pub(crate) fn symbol_numbers(n: usize) -> usize {
-    if n <= 1024 { n * 5 } else { 0 }
+    if n <= 1024 { n * SYMBOL_WIDTH } else { 0 }
 }
 
 // The numbers in the rows of so many fixups; 0 for more than there can be.
 pub(crate) fn fixup_numbers(n: usize) -> usize {
-    if n <= 1024 { n * 9 } else { 0 }
+    if n <= 1024 { n * FIXUP_WIDTH } else { 0 }
 }
 
 // The sum over the first n numbers of area rows, or all, but for the known bits: the Rust has none.

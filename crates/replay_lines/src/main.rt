@@ -6,6 +6,9 @@ mod answers;
 mod cases;
 mod sums;
 
+use rooms::INPUT_ROOM;
+use rooms::TEXT_ROOM;
+
 // Whether a text is read, the bytes used, and five values.
 pub struct Answer {
     pub taken: u64,
@@ -32,9 +35,9 @@ fn show(counts: Counts) {
 }
 
 fn main() {
-    let mut text = [0u8; 65537];
+    let mut text = [0u8; INPUT_ROOM];
     let n = io::read_full(0, &mut text);
-    if 65536 < n {
+    if TEXT_ROOM < n {
         io::write_all(1, b"the sample is too long\n");
         return;
     }

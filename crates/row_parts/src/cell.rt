@@ -4,6 +4,9 @@ ghost use Prim.Native.Nat.{_+_, _*_};
 ghost use lib.ListN.{getD};
 ghost use Rattle.row_parts.specs.Parts.{partOf};
 use cells::at;
+use rooms::AREA_WIDTH;
+use rooms::FIXUP_WIDTH;
+use rooms::SYMBOL_WIDTH;
 
 // So many bytes from a place on, or an empty part where they do not fit.
 pub fn part<'a>(s: &'a [u8], start: usize, len: usize) -> &'a [u8]
@@ -26,7 +29,7 @@ pub fn area_cell(rows: &[u32], i: usize, c: usize) -> u32
     if rows.len() / 7 < i {
         return 0;
     }
-    let start = 7 * i;
+    let start = AREA_WIDTH * i;
     if rows.len() - start <= c {
         return 0;
     }
@@ -40,7 +43,7 @@ pub fn symbol_cell(rows: &[u32], i: usize, c: usize) -> u32
     if rows.len() / 5 < i {
         return 0;
     }
-    let start = 5 * i;
+    let start = SYMBOL_WIDTH * i;
     if rows.len() - start <= c {
         return 0;
     }
@@ -54,7 +57,7 @@ pub fn fixup_cell(rows: &[u32], i: usize, c: usize) -> u32
     if rows.len() / 9 < i {
         return 0;
     }
-    let start = 9 * i;
+    let start = FIXUP_WIDTH * i;
     if rows.len() - start <= c {
         return 0;
     }

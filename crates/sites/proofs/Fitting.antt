@@ -95,6 +95,26 @@ pub ruleset readying = (needs, unready-counts, unready-start, unready-end, ready
 
 -- ------------------------------------------------------------------ the facts that a test stands for
 
+-- what the test of a line says
+pub record Lined (l : Line) (lent : ℕ) : Type 0 where
+  pub line : Short l
+  pub bytes : l .bytes ≤ lent
+
+pub lined : (l : Line) (lent : ℕ) → lineFits l lent ≡ true → Lined l lent
+unfolding lineFits
+lined l lent h =
+    let a = both-true (leb (l .width) 4) _ h in
+    let b = both-true (leb (l .bytes) 256) _ (a .1) in
+    let c = both-true (leb (l .bytes) lent) _ (b .1) in
+    record {
+      line = record { address = leb-true (l .width) 4 (a .0); content = leb-true (l .bytes) 256 (b .0); fragments = leb-true (l .fragments) 64 (c .1) };
+      bytes = leb-true (l .bytes) lent (c .0);
+    }
+
+pub line-true : {l : Line} {lent : ℕ} → Short l → l .bytes ≤ lent → lineFits l lent ≡ true
+unfolding lineFits
+line-true {l} {lent} s h = rw (le-leb (l .width) 4 (s .address), le-leb (l .bytes) 256 (s .content), le-leb (l .bytes) lent h, le-leb (l .fragments) 64 (s .fragments))
+
 -- what the tests of the counts say
 pub record Counted (l : Line) (n : Filled) (lent room : ℕ) : Type 0 where
   pub line : Short l
@@ -105,18 +125,16 @@ pub record Counted (l : Line) (n : Filled) (lent room : ℕ) : Type 0 where
   pub space : 9216 ≤ room
 
 pub counted : (l : Line) (n : Filled) (lent room : ℕ) → (lineFits l lent && filledFits n room) ≡ true → Counted l n lent room
-unfolding lineFits filledFits
+unfolding filledFits
 counted l n lent room h =
     let a = both-true (lineFits l lent) (filledFits n room) h in
-    let a₁ = both-true (leb (l .width) 4) _ (a .0) in
-    let a₂ = both-true (leb (l .bytes) 256) _ (a₁ .1) in
-    let a₃ = both-true (leb (l .bytes) lent) _ (a₂ .1) in
+    let q = lined l lent (a .0) in
     let b₁ = both-true (leb (n .areas) 64) _ (a .1) in
     let b₂ = both-true (leb (n .symbols) 1024) _ (b₁ .1) in
     let b₃ = both-true (leb (n .fixups) 1024) _ (b₂ .1) in
     record {
-      line = record { address = leb-true (l .width) 4 (a₁ .0); content = leb-true (l .bytes) 256 (a₂ .0); fragments = leb-true (l .fragments) 64 (a₃ .1) };
-      bytes = leb-true (l .bytes) lent (a₃ .0);
+      line = q .line;
+      bytes = q .bytes;
       areas = leb-true (n .areas) 64 (b₁ .0);
       symbols = leb-true (n .symbols) 1024 (b₂ .0);
       fixups = leb-true (n .fixups) 1024 (b₃ .0);

@@ -1,5 +1,7 @@
 // A T and R pair's numbers and its site, and whether they are within the bounds.
 use cells::wide;
+use rooms::FIXUP_ROOM;
+use rooms::IMAGE_ROOM;
 ghost use mathlib.Core.Path.{_≡_};
 ghost use mathlib.Core.Bool.{_&&_};
 ghost use Rattle.sites.specs.Site.{lineFits, filledFits, isReady};
@@ -34,7 +36,7 @@ pub struct Site {
 }
 
 // Whether a line's counts are within the bounds, and as many content bytes are lent.
-fn line_fits(line: Line, lent: usize) -> bool
+pub fn line_fits(line: Line, lent: usize) -> bool
     ensures { λ r. ⌜ r ≡ lineFits line lent ⌝ }
 {
     if 4 < line.width {
@@ -62,7 +64,7 @@ fn filled_fits(filled: Filled, room: usize) -> bool
     if 1024 < filled.fixups {
         return false;
     }
-    9216 <= room
+    FIXUP_ROOM <= room
 }
 
 // Whether both do, with so many content bytes lent and room for so many numbers of fixup rows.
@@ -81,13 +83,13 @@ pub fn is_ready(site: Site) -> bool
 {
     let line = site.line;
     let filled = site.filled;
-    if !counts_fit(line, filled, line.bytes, 9216) {
+    if !counts_fit(line, filled, line.bytes, FIXUP_ROOM) {
         return false;
     }
-    if 65536 < site.start {
+    if IMAGE_ROOM < site.start {
         return false;
     }
-    if 65536 < site.start + wide(site.size) {
+    if IMAGE_ROOM < site.start + wide(site.size) {
         return false;
     }
     site.made <= 64

@@ -1,4 +1,9 @@
 // The way in: refusals 1 to 3, by the lengths of the lent buffers and the bytes of the text.
+use rooms::AREA_ROOM;
+use rooms::FIXUP_ROOM;
+use rooms::IMAGE_ROOM;
+use rooms::SYMBOL_ROOM;
+use rooms::TEXT_ROOM;
 ghost use mathlib.Core.Path.{_≡_};
 ghost use Prim.Native.Nat.{_≤_};
 ghost use lib.ListN.{length};
@@ -68,19 +73,19 @@ fn first_high(t: &[u8]) -> usize
 fn has_room(lent: Lent) -> bool
     ensures { λ r. ⌜ r ≡ roomy lent ⌝ }
 {
-    if lent.areas < 448 {
+    if lent.areas < AREA_ROOM {
         return false;
     }
-    if lent.symbols < 5120 {
+    if lent.symbols < SYMBOL_ROOM {
         return false;
     }
-    if lent.values < 65536 {
+    if lent.values < IMAGE_ROOM {
         return false;
     }
-    if lent.masks < 65536 {
+    if lent.masks < IMAGE_ROOM {
         return false;
     }
-    9216 <= lent.fixups
+    FIXUP_ROOM <= lent.fixups
 }
 
 // Whether a text may be read into buffers of these lengths.
@@ -90,7 +95,7 @@ pub fn admit(t: &[u8], lent: Lent) -> Gate
     if !has_room(lent) {
         return Gate::Shut { number: 1, at: 0 };
     }
-    if 65536 < t.len() {
+    if TEXT_ROOM < t.len() {
         return Gate::Shut { number: 2, at: 0 };
     }
     let h = first_high(t);

@@ -4,9 +4,9 @@ use Rattle.place.proofs.pair.place_pair.Tie as tie
 use Rattle.place.proofs.pair.place_pair.Reads as reads
 use Rattle.place.proofs.pair.place_pair.Lts as lts
 use Rattle.cells.proofs.wide.Reads as wide-reads
+use Rattle.located.proofs.home_fits.Reads as home-fits-reads
+use Rattle.located.proofs.locate.Reads as locate-reads
 use Rattle.place.proofs.pair.process_relocs.Reads as process-relocs-reads
-use Rattle.place.proofs.site.home_fits.Reads as home-fits-reads
-use Rattle.place.proofs.site.locate.Reads as locate-reads
 
 home-fits-requires : tie.Need-home-fits-requires
 home-fits-requires c κs = search placing

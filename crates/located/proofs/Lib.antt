@@ -1,0 +1,2 @@
+pub mod SiteLaws
+pub mod Sites

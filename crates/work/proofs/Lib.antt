@@ -1,0 +1,4 @@
+pub mod WorkLaws
+pub mod AllLaws
+pub mod Use
+pub mod Unique
