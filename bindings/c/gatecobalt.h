@@ -96,6 +96,47 @@ typedef struct {
     uint64_t target;
 } gatecobalt_targeted;
 
+/* Who wrote a position last. A refusal: its number (1 to 13, or 20 for an id or a position that is not
+ * there) and place, all else 0. Otherwise refusal is 0, and written is 1, place is that of the T line that
+ * wrote it last, value and mask what it left there; or all are 0 where no line writes it. */
+typedef struct {
+    uint32_t refusal;
+    uint32_t written;
+    size_t place;
+    uint32_t value;
+    uint32_t mask;
+} gatecobalt_writer;
+
+/* Numbers in a row of a list of changes: kind, the areas' id, then by kind the position, old value, old
+ * mask, new value and new mask; or the index of the fixup row on its side; or the index of the symbol
+ * row in the older and in the newer. Numbers that a kind has no use for are 0. */
+#define GATECOBALT_CHANGE_WIDTH 8
+
+/* The kinds. An area on one side only stands for all that is in it. */
+#define GATECOBALT_POSITION_DIFFERS 0
+#define GATECOBALT_POSITION_ONLY_OLD 1
+#define GATECOBALT_POSITION_ONLY_NEW 2
+#define GATECOBALT_FIXUP_ONLY_OLD 3
+#define GATECOBALT_FIXUP_ONLY_NEW 4
+#define GATECOBALT_AREA_ONLY_OLD 5
+#define GATECOBALT_AREA_ONLY_NEW 6
+#define GATECOBALT_VALUE_DIFFERS 7
+#define GATECOBALT_SYMBOL_ONLY_OLD 8
+#define GATECOBALT_SYMBOL_ONLY_NEW 9
+
+/* The room for a list that no two modules fill, in elements. */
+#define GATECOBALT_CHANGES (135232 * GATECOBALT_CHANGE_WIDTH)
+
+/* What changed: a refusal's number, 1 if it is the older text's, 2 if it is the newer's, and its
+ * place; 19 if one of them is not finished; 16 if the list has too little room; or 0 and how many rows
+ * there are. A refusal leaves the list as it was; behind the rows it keeps its numbers. */
+typedef struct {
+    uint32_t refusal;
+    uint32_t side;
+    size_t place;
+    size_t rows;
+} gatecobalt_changed;
+
 typedef struct {
     size_t area;
     size_t symbol;
@@ -146,6 +187,73 @@ gatecobalt_targeted gatecobalt_target(uint32_t mode, bool big, uint32_t number, 
  * bits above the low 16 (24 for 19- and 24-bit addresses) are those of the fixup's own address. */
 gatecobalt_targeted gatecobalt_corrected_target(uint32_t mode, bool big, uint32_t number,
     uint64_t address, const uint8_t *bytes, size_t bytes_length);
+
+/* Who wrote a position of the kept area with an id last, by the ended reading and from the text's lines
+ * alone: value and mask are those of the image. It reads the text anew at each call, and takes under
+ * 1 MiB of stack. */
+gatecobalt_writer gatecobalt_explain(const uint8_t *text, size_t text_length, uint32_t id,
+    uint32_t position);
+
+/* A pattern book: one file with the patterns of many modules, its contents first. Its functions take
+ * no heap and under GATECOBALT_BOOK_STACK bytes of stack, and answer for any bytes at all; what they
+ * find in a file that gatecobalt_book_open did not open means nothing. */
+#define GATECOBALT_BOOK_STACK 512
+
+/* Refusals: 21 contents out of order, with equal names or out of the file; 22 a gap, an overlap or
+ * bytes left over; 23 the name is not in the book; 24 too little room. */
+
+/* A file that is opened: refusal 0 and how many entries; or 21 or 22 and its place. All of 21 is
+ * tested before any of 22. */
+typedef struct {
+    uint32_t refusal;
+    uint32_t entries;
+    size_t place;
+} gatecobalt_opened;
+
+/* A row of the contents: the place and the length of a name, the place of its pattern and how many
+ * positions that has. The values stand at place, the masks size bytes behind it. */
+typedef struct {
+    uint32_t name;
+    uint32_t name_length;
+    uint32_t place;
+    uint32_t size;
+} gatecobalt_entry;
+
+/* What finding tells: refusal 0 and the pattern's place and size; or 23. */
+typedef struct {
+    uint32_t refusal;
+    uint32_t place;
+    uint32_t size;
+} gatecobalt_found;
+
+/* What copying tells: refusal 0 and how many positions were copied; or 23 or 24, and neither buffer
+ * has changed. */
+typedef struct {
+    uint32_t refusal;
+    uint32_t size;
+    size_t place;
+} gatecobalt_copied;
+
+/* Opens a file. */
+gatecobalt_opened gatecobalt_book_open(const uint8_t *book, size_t book_length);
+
+/* The i-th row of the contents, in the order of the names' bytes. */
+gatecobalt_entry gatecobalt_book_entry(const uint8_t *book, size_t book_length, uint32_t i);
+
+/* Finds the pattern of a name, by halving. */
+gatecobalt_found gatecobalt_book_find(const uint8_t *book, size_t book_length,
+    const uint8_t *name, size_t name_length);
+
+/* Copies the pattern of a name; each of the two buffers has to have room for all its positions. */
+gatecobalt_copied gatecobalt_book_pattern(const uint8_t *book, size_t book_length,
+    const uint8_t *name, size_t name_length, uint8_t *values, size_t values_length,
+    uint8_t *masks, size_t masks_length);
+
+/* What changed between an older and a newer text, read by the ended reading. Kept areas pair by their
+ * ids, symbols by their names, of which the first on a side counts. For the rows that the list names
+ * read each text by gatecobalt_read_ended. It takes under 1 MiB of stack and no heap. */
+gatecobalt_changed gatecobalt_changes(const uint8_t *older, size_t older_length,
+    const uint8_t *newer, size_t newer_length, uint32_t *list, size_t list_length);
 
 /* The widths and rooms above, as the library has them. */
 gatecobalt_row_widths gatecobalt_widths(void);

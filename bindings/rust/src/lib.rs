@@ -2,16 +2,25 @@
 #![deny(missing_docs, unsafe_op_in_unsafe_fn, clippy::undocumented_unsafe_blocks)]
 // A stop holds the records that a module holds: neither is larger than the other.
 #![allow(clippy::result_large_err)]
+mod book;
+mod changes;
+mod explain;
 mod halt;
 mod lent;
 mod module;
 mod plain;
 mod raw;
+mod raw_book;
 mod reader;
 mod records;
 mod refusal;
 mod segment;
 
+pub use book::{Book, Pattern};
+pub use changes::{
+    changes, changes_into, Cell, Change, NotCompared, Side, CHANGE_WIDTH, MOST_CHANGES,
+};
+pub use explain::{explain, Writer};
 pub use halt::{Counted, Halt, Reason};
 pub use lent::Lent;
 pub use module::{Fault, Module, NotEqual, NotWhole, Stopped};

@@ -42,6 +42,27 @@ pub(crate) struct TargetNumbers {
     pub target: u64,
 }
 
+/// Who wrote a position last, as numbers: a refusal and its place; or 0, 1 if a line wrote it, the
+/// place of that line, and what it left there.
+#[repr(C)]
+pub(crate) struct ExplainNumbers {
+    pub refusal: u32,
+    pub written: u32,
+    pub place: usize,
+    pub value: u32,
+    pub mask: u32,
+}
+
+/// The answer to a comparison as numbers: a refusal, 1 if it is the older's, 2 if it is the newer's,
+/// and its place; or how many rows there are.
+#[repr(C)]
+pub(crate) struct ChangedNumbers {
+    pub refusal: u32,
+    pub side: u32,
+    pub place: usize,
+    pub rows: usize,
+}
+
 /// Numbers in a row of each table.
 #[repr(C)]
 #[derive(Clone, Copy, Debug, PartialEq, Eq)]
@@ -139,6 +160,22 @@ extern "C" {
         bytes: *const u8,
         bytes_len: usize,
     ) -> TargetNumbers;
+    /// Who wrote a position of a kept area last.
+    fn gatecobalt_explain(
+        text: *const u8,
+        text_len: usize,
+        id: u32,
+        position: u32,
+    ) -> ExplainNumbers;
+    /// What changed between two texts.
+    fn gatecobalt_changes(
+        older: *const u8,
+        older_len: usize,
+        newer: *const u8,
+        newer_len: usize,
+        list: *mut u32,
+        list_len: usize,
+    ) -> ChangedNumbers;
     /// Numbers in a row of each table.
     fn gatecobalt_widths() -> Widths;
     /// The longest text, and the room of each lent buffer.
@@ -206,6 +243,27 @@ pub(crate) fn corrected_target(
     let (start, length) = (bytes.as_ptr(), bytes.len());
     // SAFETY: numbers, and one slice that is read.
     unsafe { gatecobalt_corrected_target(mode, big, number, address, start, length) }
+}
+
+/// Who wrote a position of a kept area last.
+pub(crate) fn explain(text: &[u8], id: u32, position: u32) -> ExplainNumbers {
+    // SAFETY: numbers, and one slice that is read, with its length.
+    unsafe { gatecobalt_explain(text.as_ptr(), text.len(), id, position) }
+}
+
+/// What changed between two texts, into a lent list.
+pub(crate) fn changes(older: &[u8], newer: &[u8], list: &mut [u32]) -> ChangedNumbers {
+    // SAFETY: two slices that are read and one that is borrowed for writing alone, with their lengths.
+    unsafe {
+        gatecobalt_changes(
+            older.as_ptr(),
+            older.len(),
+            newer.as_ptr(),
+            newer.len(),
+            list.as_mut_ptr(),
+            list.len(),
+        )
+    }
 }
 
 /// Numbers in a row of each table.

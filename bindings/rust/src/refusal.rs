@@ -1,7 +1,7 @@
 //! Refusals.
 use std::{error, fmt};
 
-/// Why a text or a target is refused. The number of each is document 01's.
+/// Why a text, a target or a pattern book is refused. The number of each is that of the rules.
 #[derive(Clone, Copy, Debug, PartialEq, Eq, PartialOrd, Ord, Hash)]
 #[non_exhaustive]
 #[repr(u32)]
@@ -34,10 +34,20 @@ pub enum Refusal {
     ManyFixups = 13,
     /// A target of a mode over 2,047, of a number of 24 bits or more, or of too few bytes.
     NoTarget = 14,
+    /// No kept area with this id, or no such position in it.
+    NoPosition = 20,
+    /// A pattern book's contents are out of order, have equal names or point out of the file.
+    NoContents = 21,
+    /// A pattern book has a gap, an overlap or bytes left over.
+    NotClosed = 22,
+    /// The name is not in the pattern book.
+    NotInBook = 23,
+    /// Too little room for a pattern.
+    NoRoom = 24,
 }
 
 /// Every refusal, in the order of their numbers.
-const ALL: [Refusal; 14] = [
+const ALL: [Refusal; 19] = [
     Refusal::ShortBuffer,
     Refusal::LongText,
     Refusal::HighByte,
@@ -52,10 +62,15 @@ const ALL: [Refusal; 14] = [
     Refusal::NoNumber,
     Refusal::ManyFixups,
     Refusal::NoTarget,
+    Refusal::NoPosition,
+    Refusal::NoContents,
+    Refusal::NotClosed,
+    Refusal::NotInBook,
+    Refusal::NoRoom,
 ];
 
 impl Refusal {
-    /// Its number, 1 to 14.
+    /// Its number, 1 to 14 or 20 to 24.
     #[must_use]
     pub fn number(self) -> u32 {
         self as u32
@@ -87,6 +102,11 @@ impl Refusal {
             Refusal::NoTarget => {
                 "a target of a mode over 2,047, a number of 24 bits or more, or too few bytes"
             }
+            Refusal::NoPosition => "no kept area with this id, or no such position in it",
+            Refusal::NoContents => "contents out of order, with equal names or out of the file",
+            Refusal::NotClosed => "a gap, an overlap or bytes left over",
+            Refusal::NotInBook => "the name is not in the book",
+            Refusal::NoRoom => "too little room for the pattern",
         }
     }
 
