@@ -63,7 +63,8 @@ typedef struct {
 #define GATECOBALT_NOT_EQUAL 2
 #define GATECOBALT_NOT_TOLD 3
 
-/* The ended reading's answer: the same numbers, and three more. Where it stopped, reason is 1 to 4
+/* The ended reading's answer: the same numbers, and three more; one refusal more too, 18 for a header of
+ * Q or D with its line end. Where it stopped, reason is 1 to 4
  * and halt is the place where the line there came to a halt: a number's first byte, or the byte that
  * cannot stand there; else both are 0. counted is 1 to 3, or 0 for a refusal. */
 typedef struct {
@@ -96,7 +97,7 @@ typedef struct {
     uint64_t target;
 } gatecobalt_targeted;
 
-/* Who wrote a position last. A refusal: its number (1 to 13, or 20 for an id or a position that is not
+/* Who wrote a position last. A refusal: its number (1 to 13, 18, or 20 for an id or a position that is not
  * there) and place, all else 0. Otherwise refusal is 0, and written is 1, place is that of the T line that
  * wrote it last, value and mask what it left there; or all are 0 where no line writes it. */
 typedef struct {

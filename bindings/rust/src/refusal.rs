@@ -34,6 +34,8 @@ pub enum Refusal {
     ManyFixups = 13,
     /// A target of a mode over 2,047, of a number of 24 bits or more, or of too few bytes.
     NoTarget = 14,
+    /// A header of Q or D, which only the plain reading takes.
+    NotHex = 18,
     /// No kept area with this id, or no such position in it.
     NoPosition = 20,
     /// A pattern book's contents are out of order, have equal names or point out of the file.
@@ -47,7 +49,7 @@ pub enum Refusal {
 }
 
 /// Every refusal, in the order of their numbers.
-const ALL: [Refusal; 19] = [
+const ALL: [Refusal; 20] = [
     Refusal::ShortBuffer,
     Refusal::LongText,
     Refusal::HighByte,
@@ -62,6 +64,7 @@ const ALL: [Refusal; 19] = [
     Refusal::NoNumber,
     Refusal::ManyFixups,
     Refusal::NoTarget,
+    Refusal::NotHex,
     Refusal::NoPosition,
     Refusal::NoContents,
     Refusal::NotClosed,
@@ -70,7 +73,7 @@ const ALL: [Refusal; 19] = [
 ];
 
 impl Refusal {
-    /// Its number, 1 to 14 or 20 to 24.
+    /// Its number, 1 to 14, 18 or 20 to 24.
     #[must_use]
     pub fn number(self) -> u32 {
         self as u32
@@ -102,6 +105,7 @@ impl Refusal {
             Refusal::NoTarget => {
                 "a target of a mode over 2,047, a number of 24 bits or more, or too few bytes"
             }
+            Refusal::NotHex => "a header of Q or D",
             Refusal::NoPosition => "no kept area with this id, or no such position in it",
             Refusal::NoContents => "contents out of order, with equal names or out of the file",
             Refusal::NotClosed => "a gap, an overlap or bytes left over",

@@ -99,7 +99,8 @@ fn refusals_have_their_numbers_and_places() {
     assert_eq!(fault(b""), Some(refused(Refusal::NoHeader, 0)));
     for number in 0..40 {
         let refusal = Refusal::from_number(number);
-        assert_eq!(refusal.is_some(), (1..=14).contains(&number) || (20..=24).contains(&number));
+        let known = (1..=14).contains(&number) || number == 18 || (20..=24).contains(&number);
+        assert_eq!(refusal.is_some(), known);
         assert_eq!(refusal.map_or(number, Refusal::number), number);
     }
 }
@@ -115,6 +116,8 @@ fn a_fault_says_what_and_where() {
     let not_equal = "finished not equal: read 0 areas and 1 symbols, the H line tells others";
     assert_eq!(said(b"XH3\nH 1 areas 1 global symbols\nS a Ref0\n"), Some(not_equal.into()));
     assert_eq!(said(b"XH3"), Some("refused 4 at 0: no header".into()));
+    assert_eq!(said(b"QH3\n"), Some("refused 18 at 0: a header of Q or D".into()));
+    assert_eq!(said(b"DL2"), Some("refused 4 at 0: no header".into()));
 }
 
 #[test]

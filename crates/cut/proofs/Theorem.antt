@@ -11,11 +11,12 @@ use Rattle.format.specs.Header.{Head, header}
 use Rattle.format.specs.Lines.{endLength, lines}
 use Rattle.format.specs.Outcome.{Outcome, fine, refused, andThen}
 use Rattle.format.specs.Records.{records, Parsed, parsed, ends}
-use Rattle.format.specs.Reading.{Lent, allowed, Built, build, Read, readOf, read}
+use Rattle.format.specs.Reading.{Lent, allowed, Built, build, Read, headed, readOf, read, takes}
 use Rattle.cut.specs.Cut.{inside, cutRecords}
 use Rattle.cut.proofs.Records.{Asc, endsOf, asc-records}
 use Rattle.cut.proofs.Header.{head-in, head-out}
 use Rattle.laws.proofs.Outcomes.{chain, follow}
+use Rattle.laws.proofs.Headed.{headed-refused, is-headed, was-headed}
 use Rattle.cut.proofs.Build.{build-cut}
 use Rattle.cut.specs.Cut.{CutRead, CutText}
 use Rattle.cut.proofs.Opened.{allowed-take, opened, parsed-at, lost-parsed, opens, cutParsed, opened-cut}
@@ -23,12 +24,12 @@ use Rattle.cut.proofs.Verdict.{inside-le, all-append, finished-iff}
 
 module _ (b : Lent) (text : List ℕ) (n : ℕ) (inText : n ≤ length text) (h : Head) (e k : ℕ) (built : Built)
     (may : allowed b text ≡ fine k) (is-head : header text ≡ some h) (is-end : endLength (drop (h .next) text) ≡ suc e)
-    (is-built : build (h .form) (opened h e text .records) ≡ fine built) where
+    (is-taken : takes true (h .form .radix) ≡ true) (is-built : build (h .form) (opened h e text .records) ≡ fine built) where
   cut-before : n < h .next + suc e → read true b (take n text) ≡ refused 4 0
   unfolding read
   cut-before l =
       follow (allowed b (take n text)) _ (allowed-take b text n k may)
-      (ap (λ (o : Outcome Parsed). andThen o readOf) (lost-parsed (take n text) (head-out text n e h is-head is-end l)))
+      (ap (λ (o : Outcome Parsed). andThen o readOf) (headed-refused true (take n text) 4 0 (lost-parsed (take n text) (head-out text n e h is-head is-end l))))
 
   cut-from : h .next + suc e ≤ n → CutRead b text n (record { parsed = opened h e text; built = built })
   unfolding read readOf opened cutParsed ends cutRecords
@@ -43,7 +44,7 @@ module _ (b : Lent) (text : List ℕ) (n : ℕ) (inText : n ≤ length text) (h 
         cut = record { parsed = cutParsed n (opened h e text); built = f .value };
         accepted =
             follow (allowed b (take n text)) _ (allowed-take b text n k may)
-            (follow (parsed true (take n text)) readOf same
+            (follow (headed true (take n text)) readOf (is-headed true (take n text) (cutParsed n (opened h e text)) same is-taken)
             (follow (build (h .form) (cutRecords n (opened h e text .records))) _ (f .is-fine) refl));
         same-form = refl;
         same-head = refl;
@@ -63,11 +64,13 @@ pub a-cut-gives-the-records-inside-it : (b : Lent) (text : List ℕ) (n : ℕ) (
 unfolding read readOf opened
 a-cut-gives-the-records-inside-it b text n whole l h =
     let one = chain (allowed b text) _ whole h in
-    let two = chain (parsed true text) readOf whole (one .second) in
+    let two = chain (headed true text) readOf whole (one .second) in
+    let taken = was-headed true text (two .value) (two .first) in
     let three = chain (build (two .value .form) (two .value .records)) _ whole (two .second) in
-    let o = opens text (two .value) (two .first) in
+    let o = opens text (two .value) (taken .parses) in
     let same : record { parsed = opened (o .h) (o .e) text; built = three .value } ≡ whole =
     ap (λ (p : Parsed). record { parsed = p; built = three .value }) (o .same) ∙ cc (three .second) in
+    let is-taken : takes true (opened (o .h) (o .e) text .form .radix) ≡ true = subst (λ (p : Parsed). takes true (p .form .radix) ≡ true) (sym (o .same)) (taken .taken) in
     let is-built : build (opened (o .h) (o .e) text .form) (opened (o .h) (o .e) text .records) ≡ fine (three .value) =
     subst (λ (p : Parsed). build (p .form) (p .records) ≡ fine (three .value)) (sym (o .same)) (three .first) in
-    subst (λ (w : Read). CutText b text n w) same (cut-both b text n l (o .h) (o .e) (one .value) (three .value) (one .first) (o .is-head) (o .is-end) is-built)
+    subst (λ (w : Read). CutText b text n w) same (cut-both b text n l (o .h) (o .e) (one .value) (three .value) (one .first) (o .is-head) (o .is-end) is-taken is-built)

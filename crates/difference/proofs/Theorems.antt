@@ -10,11 +10,11 @@ use lib.Dec.{leb, leb·zero}
 use native.Mathlib.Omega.{arith}
 use Rattle.format.specs.Lists.{flat, over, pick}
 use Rattle.format.specs.Outcome.{fine}
-use Rattle.format.specs.Records.{Parsed, finished, parsed, verdict}
+use Rattle.format.specs.Records.{Parsed, finished, verdict}
 use Rattle.format.specs.Tables.{counted, keptCount, room, tables}
 use Rattle.format.specs.Fixups.{Fixup}
 use Rattle.format.specs.Placing.{placing}
-use Rattle.format.specs.Reading.{Lent, Read, allowed, build, fixupsOf, read, readOf}
+use Rattle.format.specs.Reading.{Lent, Read, allowed, build, fixupsOf, headed, read, readOf}
 use Rattle.laws.proofs.Outcomes.{chain}
 use Rattle.laws.proofs.Room.{sized-placing}
 use Rattle.difference.specs.Module.{Cell, Module, cells, first, images, sizes, split, symbolsOf}
@@ -92,7 +92,7 @@ pub what-is-read-is-whole : (ended : Bool) (l : Lent) (text : List ℕ) (w : Rea
 unfolding read
 what-is-read-is-whole ended l text w h =
     let one = chain (allowed l text) _ w h in
-    let two = chain (parsed ended text) readOf w (one .second) in
+    let two = chain (headed ended text) readOf w (one .second) in
     whole-built text (two .value) w (two .second)
 
 -- of two texts that are read: the list is empty exactly if no area, position, fixup or symbol differs

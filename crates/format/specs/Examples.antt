@@ -90,9 +90,17 @@ known : List ℕ
 unfolding bytesOf
 known = bytesOf "XH3\nA C size 3 flags 20\nA X size 5 flags 0\nA D size 3 flags 20\nT 00 00 00 AA BB\nR 00 00 00 00\nT 00 00 01 CC DD EE\nR 00 00 00 00 08 03 00 00\nT 00 00 00 11\nR 00 00 00 02\n"
 
+-- one area behind a header, or a byte above 127
+behind : List ℕ → List ℕ
+unfolding bytesOf
+behind head = head ++ bytesOf "\nA C size 2 flags 40\n"
+
+high : List ℕ → List ℕ
+high head = head ++ 10 ∷ 200 ∷ []
+
 -- classes are told by their numbers: Addr19 0, Addr11 1, Addr24 2, Addr16 3, Byte 4, Other 5
 pub table : List Example
-unfolding evaluate bytesOf got outcome answerOf whole lent underHead underHeader e1 e2 e10 e11 e12 known
+unfolding evaluate bytesOf got outcome answerOf whole lent underHead underHeader e1 e2 e10 e11 e12 known behind high
 table =
     -- E1: the whole reading
     example (whole (reading true lent e1)) (
@@ -141,6 +149,14 @@ table =
     (6 ∷ 1 ∷ 3 ∷ 0x20 ∷ 0 ∷ 0 ∷ 13 ∷ 26 ∷ 1 ∷ 5 ∷ 0 ∷ 0 ∷ 0 ∷ 0 ∷ 45 ∷ 1 ∷ 3 ∷ 0x20 ∷ 0 ∷ 0 ∷ 8 ∷ [])
     ∷ (0xFF ∷ 0x1F ∷ 0 ∷ 0xFF ∷ 0 ∷ 0 ∷ [])
     ∷ [])
+    -- 18: Q and D by the ended reading, where the header's line is ended; 4 where it is not; 3 goes first; X is taken, and all three by the plain reading
+    ∷ example
+    (map (λ (text : List ℕ). answerOf (reading true lent text .answer)) (
+    behind (bytesOf "QH3") ∷ behind (bytesOf " DL2 ") ∷ bytesOf "QH3" ∷ bytesOf "DL2 " ∷ high (bytesOf "QH3") ∷ behind (bytesOf "XH3") ∷ bytesOf "XH3" ∷ []))
+    ((0 ∷ 18 ∷ 0 ∷ []) ∷ (0 ∷ 18 ∷ 0 ∷ []) ∷ (0 ∷ 4 ∷ 0 ∷ []) ∷ (0 ∷ 4 ∷ 0 ∷ []) ∷ (0 ∷ 3 ∷ 4 ∷ []) ∷ (1 ∷ 1 ∷ 0 ∷ 0 ∷ 0 ∷ 0 ∷ 0 ∷ []) ∷ (0 ∷ 4 ∷ 0 ∷ []) ∷ [])
+    ∷ example
+    (map (λ (text : List ℕ). answerOf (reading false lent text .answer)) (behind (bytesOf "QH3") ∷ behind (bytesOf "DL2") ∷ bytesOf "QH3" ∷ []))
+    ((1 ∷ 1 ∷ 0 ∷ 0 ∷ 1 ∷ 2 ∷ 0 ∷ 23 ∷ []) ∷ (1 ∷ 1 ∷ 0 ∷ 0 ∷ 1 ∷ 2 ∷ 0 ∷ 23 ∷ []) ∷ (1 ∷ 0 ∷ 0 ∷ 0 ∷ 0 ∷ 0 ∷ 0 ∷ []) ∷ [])
     ∷ []
 
 -- every example holds

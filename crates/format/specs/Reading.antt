@@ -1,11 +1,11 @@
--- The whole reading: refusals 1 to 13, or the answer and the rows that the lent buffers hold afterwards.
+-- The whole reading: refusals 1 to 13 and 18, or the answer and the rows that the lent buffers hold afterwards.
 -- Assumes nothing.
 use Prim.Native.Nat.{suc, ℕ, _*_}
-use mathlib.Core.Bool.{Bool, _&&_}
+use mathlib.Core.Bool.{Bool, true, _&&_}
 use mathlib.Core.List.{List, [], _∷_}
 use mathlib.Core.Option.{Option, none, some}
 use lib.ListN.{length}
-use lib.Dec.{leb}
+use lib.Dec.{eqb, leb}
 use Rattle.format.specs.Lists.{flat, pick}
 use Rattle.format.specs.Header.{Form}
 use Rattle.format.specs.Outcome.{Outcome, andThen, fine, refused}
@@ -69,9 +69,20 @@ pub record Read : Type 0 where
 unfoldable pub readOf : Parsed → Outcome Read
 readOf p = andThen (build (p .form) (p .records)) (λ b. fine (record { parsed = p; built = b }))
 
--- 1 to 13, or what was read
+-- 18: the plain reading takes headers of all three radices, the ended reading those of X only
+unfoldable pub takes : Bool → (radix : ℕ) → Bool
+takes ended radix = pick ended (eqb radix 16) true
+
+unfoldable pub onlyX : Bool → Parsed → Outcome Parsed
+onlyX ended p = pick (takes ended (p .form .radix)) (fine p) (refused 18 0)
+
+-- 4, then 18, or what the text holds; `parsed` is the same for a header of any radix
+unfoldable pub headed : Bool → List ℕ → Outcome Parsed
+headed ended text = andThen (parsed ended text) (onlyX ended)
+
+-- 1 to 3, 4 or 18, 5 to 13, or what was read
 unfoldable pub read : Bool → Lent → List ℕ → Outcome Read
-read ended b text = andThen (allowed b text) (λ k. andThen (parsed ended text) readOf)
+read ended b text = andThen (allowed b text) (λ k. andThen (headed ended text) readOf)
 
 -- how much there is: areas, symbols, T and R pairs, kept areas, positions of their images, fixups
 pub record Counts : Type 0 where

@@ -18,8 +18,9 @@ use Rattle.format.specs.Pairs.{Pair}
 use Rattle.format.specs.Outcome.{fine, refused, fold}
 use Rattle.format.specs.Records.{Taken, stops, last, goes, stepOf, entryStep, pairs, Records, both, records, Parsed, parsedAt, parsedFrom, parsed}
 use Rattle.format.specs.Tables.{Symbol, Tables, named, addArea, addSymbol, addBody, addEntry, areaRow, tables, lastIndex}
-use Rattle.format.specs.Reading.{Lent, Read, allowed, read, readOf, build}
+use Rattle.format.specs.Reading.{Lent, Read, allowed, headed, read, readOf, build}
 use Rattle.laws.proofs.Outcomes.{chain, passed, unlike}
+use Rattle.laws.proofs.Headed.{headed-parsed}
 use Rattle.laws.proofs.Within.{Holds, Named, EntryIn, entry-in}
 use Rattle.laws.proofs.WasRead.{what-was-read}
 use Rattle.laid.specs.Words.{Each, Pairwise}
@@ -112,10 +113,10 @@ read-from : (ended : Bool) (b : Lent) (text : List ℕ) (w : Read) → read ende
 unfolding read readOf parsed
 read-from ended b text w h =
     let one = chain (allowed b text) _ w h in
-    let two = chain (parsed ended text) readOf w (one .second) in
+    let two = chain (headed ended text) readOf w (one .second) in
     let three = chain (build (two .value .form) (two .value .records)) _ w (two .second) in
     let same : record { parsed = two .value; built = three .value } ≡ w = cc (three .second) in
-    subst (λ (v : Read). From 0 (v .parsed .records .entries)) same (parsed-from ended (header text) text (two .value) (two .first))
+    subst (λ (v : Read). From 0 (v .parsed .records .entries)) same (parsed-from ended (header text) text (two .value) (headed-parsed ended text (two .value) (two .first)))
 
 -- ------------------------------------------------------------------ the symbol table
 

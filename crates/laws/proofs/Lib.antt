@@ -3,6 +3,7 @@ pub mod Ones
 pub mod Lines
 pub mod Headers
 pub mod Opened
+pub mod Headed
 pub mod WasRead
 pub mod Within
 pub mod Places

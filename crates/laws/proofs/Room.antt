@@ -16,12 +16,12 @@ use Rattle.format.specs.Entries.{Entry, ignored, area, symbol}
 use Rattle.format.specs.Pairs.{Pair, skipped, placed, Fragment, Content, Relocation}
 use Rattle.format.specs.Outcome.{Outcome, fine, refused, andThen, fold}
 use Rattle.format.specs.Mode.{gives}
-use Rattle.format.specs.Records.{Taken, Parsed, parsed}
+use Rattle.format.specs.Records.{Taken, Parsed}
 use Rattle.format.specs.Tables.{Area, Symbol, Tables, areaRow, addArea, addSymbol, addBody, addEntry, tables, total, rank, room, counted, keptCount}
 use Rattle.format.specs.Fixups.{Fixup, Reference, Site, reference, fixupOf, fixupTo, fixupAt, fixupsAt, ofArea, byArea}
 use Rattle.format.specs.Placing.{State, Walk, passedOver, write, walk, placeAt, placeLine, placeIn, placeBody, placePair, placing}
 use Rattle.format.specs.WorkLine.{inLine}
-use Rattle.format.specs.Reading.{build, Lent, lentRoom, allowed, Read, readOf, read, Reading, fixupsOf, readingOf, reading}
+use Rattle.format.specs.Reading.{build, Lent, lentRoom, allowed, Read, headed, readOf, read, Reading, fixupsOf, readingOf, reading}
 use Rattle.format.specs.Rows.{areaColumns, fixupColumns, symbolColumns, symbolNumbers, fixupNumbers}
 use Rattle.laws.proofs.Ones.{one-at-most}
 use Rattle.laws.proofs.Known.{table-length}
@@ -260,5 +260,5 @@ has-room ended b text = go (read ended b text) refl
     go (refused n p) h = room-none b text n p
     go (fine w) h =
         let one = chain (allowed b text) _ w h in
-        let two = chain (parsed ended text) readOf w (one .second) in
+        let two = chain (headed ended text) readOf w (one .second) in
         room-built b text (two .value) w (passed (lentRoom b) _ 1 0 (one .value) (one .first) .0) (two .second)

@@ -8,8 +8,9 @@ use Rattle.format.specs.Outcome.{fine}
 use Rattle.format.specs.Records.{Parsed, parsed}
 use Rattle.format.specs.Tables.{tables, counted, room}
 use Rattle.format.specs.Placing.{placing}
-use Rattle.format.specs.Reading.{Lent, Read, Built, allowed, build, read, readOf}
+use Rattle.format.specs.Reading.{Lent, Read, Built, allowed, build, headed, read, readOf}
 use Rattle.laws.proofs.Outcomes.{chain}
+use Rattle.laws.proofs.Headed.{headed-parsed}
 
 -- what was built of the records
 pub record WasBuilt (p : Parsed) (b : Built) : Type 0 where
@@ -22,6 +23,7 @@ pub record WasBuilt (p : Parsed) (b : Built) : Type 0 where
 pub record WasRead (ended : Bool) (l : Lent) (text : List ℕ) (w : Read) : Type 0 where
   pub passes : ℕ
   pub allows : allowed l text ≡ fine passes
+  pub heads : headed ended text ≡ fine (w .parsed)
   pub parses : parsed ended text ≡ fine (w .parsed)
   pub builds : WasBuilt (w .parsed) (w .built)
 
@@ -41,9 +43,9 @@ pub what-was-read : (ended : Bool) (l : Lent) (text : List ℕ) (w : Read) → r
 unfolding read readOf
 what-was-read ended l text w h =
     let one = chain (allowed l text) _ w h in
-    let two = chain (parsed ended text) readOf w (one .second) in
+    let two = chain (headed ended text) readOf w (one .second) in
     let three = chain (build (two .value .form) (two .value .records)) _ w (two .second) in
     let same : record { parsed = two .value; built = three .value } ≡ w = cc (three .second) in
     let all : WasRead ended l text (record { parsed = two .value; built = three .value }) =
-    record { passes = one .value; allows = one .first; parses = two .first; builds = was-built (two .value) (three .value) (three .first) } in
+    record { passes = one .value; allows = one .first; heads = two .first; parses = headed-parsed ended text (two .value) (two .first); builds = was-built (two .value) (three .value) (three .first) } in
     subst (λ (v : Read). WasRead ended l text v) same all

@@ -63,7 +63,8 @@ fn refusals() -> bool {
             10  a fragment runs past its T line\n  \
             11  a fragment names a symbol that is not there\n  \
             12  a fixup has no number\n  \
-            13  more than 1,024 fixups\n",
+            13  more than 1,024 fixups\n  \
+            18  the header is Q or D, and list takes X only\n",
     )
 }
 

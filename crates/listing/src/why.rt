@@ -56,6 +56,7 @@ fn refusal_words(s: Sink, out: &mut Buffer, number: u32) -> Sink {
         ),
         12 => sink::put(s, out, b"a fixup of this line has no number"),
         13 => sink::put(s, out, b"this line gives the 1,025th fixup"),
+        18 => sink::put(s, out, b"the header is Q or D, and only X is taken"),
         _ => low_words(s, out, number),
     }
 }

@@ -15,12 +15,13 @@ use Rattle.format.specs.Outcome.{Outcome, fine, fold}
 use Rattle.format.specs.Records.{Taken, Parsed, parsed}
 use Rattle.format.specs.Tables.{tables, fits, fitsBody, counted, room}
 use Rattle.format.specs.Placing.{placing}
-use Rattle.format.specs.Reading.{Lent, Read, Built, allowed, build, read, readOf}
+use Rattle.format.specs.Reading.{Lent, Read, Built, allowed, build, headed, read, readOf}
 use Rattle.laws.proofs.Outcomes.{chain, follow, passed, fold-prefix}
 use Rattle.order.specs.Order.{bodies, Apart}
 use Rattle.order.specs.Texts.{OtherText}
 use Rattle.order.proofs.Lists.{fold-behind}
 use Rattle.laws.proofs.WasRead.{what-was-read}
+use Rattle.laws.proofs.Headed.{headed-alike}
 use Rattle.order.proofs.Order.{neighbours-in-either-order}
 
 -- ------------------------------------------------------------------ how many pairs there are
@@ -108,7 +109,7 @@ module _ (ended : Bool) (l : Lent) (text text₂ : List ℕ) (w : Read) (p : Par
       (follow (placing (p .form) t (p .records .pairs)) _ (subst (λ (f : Form). placing f t (p .records .pairs) ≡ fine (x .other)) same-form (x .accepted (p .records .pairs) exchanged)) refl))) in
       record {
         other = record { parsed = p; built = new };
-        accepted = follow (allowed l text₂) _ may (follow (parsed ended text₂) readOf is-parsed (follow (build (p .form) (p .records)) _ built refl));
+        accepted = follow (allowed l text₂) _ may (follow (headed ended text₂) readOf (headed-alike ended text text₂ (w .parsed) p (what-was-read ended l text w was .heads) is-parsed same-form) (follow (build (p .form) (p .records)) _ built refl));
         same-tables = refl;
         same-lines = refl;
         same-size = refl;

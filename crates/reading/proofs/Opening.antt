@@ -2,7 +2,7 @@
 -- Assumes nothing.
 use Prim.Native.Nat.{ℕ, suc, _+_, _-_, _≤_}
 use mathlib.Core.Path.{_≡_, refl, ap, sym, subst, _∙_}
-use mathlib.Core.Bool.{Bool, true, false}
+use mathlib.Core.Bool.{Bool, true, false, not}
 use mathlib.Core.List.{List}
 use native.Mathlib.Omega.{arith}
 use lib.ListN.{length, drop, length-drop}
@@ -21,6 +21,8 @@ use Rattle.format.specs.Rows.{areaTable}
 use Rattle.format.specs.Reading as paper
 use Rattle.format.specs.Held.{Held, lengths, Meets}
 use Rattle.laws.specs.Places.{recordsAt}
+use Rattle.laws.proofs.Headed.{is-headed}
+use Rattle.scan.proofs.Laws.Tests.{was-no, was-yes}
 use Rattle.laws.proofs.Unique.{no-second-answer-fits-through}
 use Rattle.header.specs.Told.{toldHead, formOf}
 use Rattle.header.specs.declared.Form as text
@@ -41,7 +43,7 @@ use Rattle.steps.proofs.Entries.{end-within}
 -- `read_text`
 module _ (ended : Bool) (s : List ℕ) {h : Head} (e : toldHead h ≡ header s) where
   pub text-none : h ≡ Missing → (old : Held) → Laid (length s) (wholeText ended s) old (Refusal 4 0) old
-  unfolding wholeText parsed parsedFrom over
+  unfolding wholeText paper.headed parsed parsedFrom over
   text-none g old = rw (← e, g) (record { says = refl; areas = refl; symbols = refl; values = refl; masks = refl; fixups = refl })
 
   module _ {f : text.Form} {n : ℕ} (g : h ≡ Found f n) {k : ℕ} (i : k ≡ endLength (drop n s)) where
@@ -50,15 +52,15 @@ module _ (ended : Bool) (s : List ℕ) {h : Head} (e : toldHead h ≡ header s) 
     parsed-here = rw (← e, g, ← i)
 
     -- a header and no line end
-    only : (b : Bool) {r : Answer} → HeaderOnly b (length s) n r → (old : Held) → Laid (length s) (andThen (andThen (parsedAt b (formOf f) n 0 s) paper.readOf) (λ r. fine (wholeOf r))) old r old
-    unfolding parsedAt paper.readOf paper.build paper.countsOf paper.fixupsOf tables counted fold room total keptCount placing byArea stop ends flat areaTable over
+    only : (b : Bool) {r : Answer} → HeaderOnly b (length s) n r → (old : Held) → Laid (length s) (andThen (andThen (andThen (parsedAt b (formOf f) n 0 s) (paper.onlyX b)) paper.readOf) (λ r. fine (wholeOf r))) old r old
+    unfolding paper.onlyX paper.takes parsedAt paper.readOf paper.build paper.countsOf paper.fixupsOf tables counted fold room total keptCount placing byArea stop ends flat areaTable over
     only true w old = record { says = w .header-is; areas = refl; symbols = refl; values = refl; masks = refl; fixups = refl }
     only false w old = record { says = w .header-is; areas = refl; symbols = refl; values = refl; masks = refl; fixups = refl }
 
     pub text-only : k ≡ 0 → {r : Answer} → HeaderOnly ended (length s) n r → (old : Held) → Laid (length s) (wholeText ended s) old r old
-    unfolding wholeText
+    unfolding wholeText paper.headed
     text-only z {r} w old =
-        subst (λ (o : Outcome Parsed). Laid (length s) (andThen (andThen o paper.readOf) (λ r. fine (wholeOf r))) old r old)
+        subst (λ (o : Outcome Parsed). Laid (length s) (andThen (andThen (andThen o (paper.onlyX ended)) paper.readOf) (λ r. fine (wholeOf r))) old r old)
         (sym (parsed-here ∙ ap (λ (x : ℕ). parsedAt ended (formOf f) n x s) z)) (only ended w old)
 
     module _ (z : k ≡ 0 → ⊥) where
@@ -68,15 +70,26 @@ module _ (ended : Bool) (s : List ℕ) {h : Head} (e : toldHead h ≡ header s) 
       pub text-fits : length s ≤ 65536 → Fits w64 (n + k)
       text-fits l = record { fits = omega (arith, text-inside) }
 
-      pub text-lines : {head : ℕ} → head ≡ pick ended (n + k) n → {old new : Held} {r : Answer} → Laid (length s) (wholeLines ended (formOf f) s (n + k) head) old r new → Laid (length s) (wholeText ended s) old r new
-      unfolding wholeText wholeLines parsedAt recordsAt
-      text-lines {head} x {old} {new} {r} w =
+      parsed-lines : {head : ℕ} → head ≡ pick ended (n + k) n → parsed ended s ≡ fine (record { form = formOf f; head = head; records = recordsAt ended (formOf f) s (n + k) })
+      unfolding parsedAt recordsAt
+      parsed-lines {head} x =
           let y : k ≡ suc (k - 1) = omega arith in
-          let p : parsed ended s ≡ fine (record { form = formOf f; head = head; records = recordsAt ended (formOf f) s (n + k) }) =
-          parsed-here ∙ (ap (λ (m : ℕ). parsedAt ended (formOf f) n m s) y ∙ rw (← y, ← x)) in
+          parsed-here ∙ (ap (λ (m : ℕ). parsedAt ended (formOf f) n m s) y ∙ rw (← y, ← x))
+
+      -- a header that is not taken
+      pub text-18 : {t : Bool} → t ≡ paper.takes ended (f .radix) → not t ≡ true → (old : Held) → Laid (length s) (wholeText ended s) old (Refusal 18 0) old
+      unfolding wholeText paper.headed paper.onlyX over
+      text-18 {t} j c old =
+          rw (parsed-lines refl, ← j, was-no t c) (record { says = refl; areas = refl; symbols = refl; values = refl; masks = refl; fixups = refl })
+
+      pub text-lines : {t : Bool} → t ≡ paper.takes ended (f .radix) → not t ≡ false → {head : ℕ} → head ≡ pick ended (n + k) n → {old new : Held} {r : Answer} → Laid (length s) (wholeLines ended (formOf f) s (n + k) head) old r new → Laid (length s) (wholeText ended s) old r new
+      unfolding wholeText wholeLines
+      text-lines {t} j c {head} x {old} {new} {r} w =
+          let q : Parsed = record { form = formOf f; head = head; records = recordsAt ended (formOf f) s (n + k) } in
+          let p : paper.headed ended s ≡ fine q = is-headed ended s q (parsed-lines x) (sym j ∙ was-yes t c) in
           subst (λ (o : Outcome Parsed). Laid (length s) (andThen (andThen o paper.readOf) (λ r. fine (wholeOf r))) old r new) (sym p) w
 
-pub ruleset texts = (needs, text-none, text-only, text-inside, text-fits, text-lines)
+pub ruleset texts = (needs, text-none, text-only, text-inside, text-fits, text-18, text-lines)
 
 -- `read`
 lay-read : (s : List ℕ) (o : Outcome paper.Read) → paper.readingOf s o ≡ layOf (length s) (andThen o (λ r. fine (wholeOf r)))
@@ -114,7 +127,7 @@ module _ (ended : Bool) (s xs ys vs ms fs : List ℕ) {g : Gate}
 
     reading-is : paper.reading ended (lengths (held xs ys vs ms fs)) s ≡ layOf (length s) (wholeText ended s)
     unfolding paper.reading paper.read lengths wholeText
-    reading-is = rw (← w .answered, e) (lay-read s (andThen (parsed ended s) paper.readOf))
+    reading-is = rw (← w .answered, e) (lay-read s (andThen (paper.headed ended s) paper.readOf))
 
     pub read-open : {new : Held} {r : Answer} → Laid (length s) (wholeText ended s) (held xs ys vs ms fs) r new → Meets ended s (held xs ys vs ms fs) (told r) new
     read-open {new} {r} v = meets-by ended s (held xs ys vs ms fs) new r (wholeText ended s) reading-is v

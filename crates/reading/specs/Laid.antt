@@ -11,7 +11,7 @@ use Rattle.format.specs.Lists.{pick, over, flat}
 use Rattle.format.specs.Header.{Form}
 use Rattle.format.specs.Outcome.{Outcome, fine, refused, andThen}
 use Rattle.format.specs.Pairs as the
-use Rattle.format.specs.Records.{Taken, lastOf, Verdict, finished, stopped, parsed, stop}
+use Rattle.format.specs.Records.{Taken, lastOf, Verdict, finished, stopped, stop}
 use Rattle.format.specs.Tables.{Tables, total, keptCount, counted, room}
 use Rattle.format.specs.Placing.{placing}
 use Rattle.format.specs.Rows.{areaTable, symbolNumbers, fixupNumbers}
@@ -83,9 +83,9 @@ wholeAt f t ps e =
 unfoldable pub wholeLines : Bool → Form → List ℕ → (at head : ℕ) → Outcome Whole
 wholeLines ended f text at head = andThen (paper.readOf (record { form = f; head = head; records = recordsAt ended f text at })) (λ r. fine (wholeOf r))
 
--- the text: 4, and the lines behind the header
+-- the text: 4, then 18, and the lines behind the header
 unfoldable pub wholeText : Bool → List ℕ → Outcome Whole
-wholeText ended text = andThen (andThen (parsed ended text) paper.readOf) (λ r. fine (wholeOf r))
+wholeText ended text = andThen (andThen (paper.headed ended text) paper.readOf) (λ r. fine (wholeOf r))
 
 abbrev pub verdictAt : (n stop : ℕ) → Verdict
 verdictAt n e = pick (eqb e n) finished (stopped e)

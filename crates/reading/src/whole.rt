@@ -14,6 +14,7 @@ use steps::record_end;
 use way_in::Gate;
 use way_in::Lent;
 use way_in::admit;
+use way_in::takes;
 
 // A text of n bytes with a header that ends at a place and no line end behind it.
 fn header_only(ended: bool, n: usize, next: usize) -> Answer
@@ -36,7 +37,7 @@ fn header_only(ended: bool, n: usize, next: usize) -> Answer
     accept(none, n, next)
 }
 
-// 4, and the lines behind the header.
+// 4, then 18, and the lines behind the header.
 fn read_text(
     t: &[u8],
     ended: bool,
@@ -58,6 +59,12 @@ fn read_text(
     let e = scan::line_ending(t, next);
     if e == 0 {
         return header_only(ended, t.len(), next);
+    }
+    if !takes(ended, form.radix) {
+        return Answer::Refusal {
+            number: 18,
+            place: 0,
+        };
     }
     let at = next + e;
     let head = record_end(ended, at, next);

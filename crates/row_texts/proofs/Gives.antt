@@ -12,9 +12,10 @@ use Rattle.format.specs.Lists.{pick}
 use Rattle.format.specs.Header.{Form}
 use Rattle.format.specs.Outcome.{Outcome, fine, refused}
 use Rattle.format.specs.Records.{Parsed, finished, parsed, verdict}
-use Rattle.format.specs.Reading.{Built, Read, allowed, build, lentRoom, read, readOf}
+use Rattle.format.specs.Reading.{Built, Read, allowed, build, headed, lentRoom, read, readOf}
 use Rattle.laws.specs.Rows.{from}
 use Rattle.laws.proofs.Outcomes.{chain, passed}
+use Rattle.laws.proofs.Headed.{headed-parsed}
 use Rattle.record_rows.specs.ReadPairs.{roomy}
 use Rattle.manual.specs.Each.{Each}
 use Rattle.written.specs.Named.{Named, NamedEntry, NamedPair, nameOf, namedOf}
@@ -85,8 +86,8 @@ module _ (f : Form) (r : Rows) where
   unfolding read
   opens again h =
       let one = chain (allowed roomy (textOf f r)) (λ k. _) again h in
-      let two = chain (parsed true (textOf f r)) readOf again (one .second) in
-      record { k = one .value; first = one .first; second = two .first ∙ ap fine (same-parsed (two .value) again (two .second)) }
+      let two = chain (headed true (textOf f r)) readOf again (one .second) in
+      record { k = one .value; first = one .first; second = headed-parsed true (textOf f r) (two .value) (two .first) ∙ ap fine (same-parsed (two .value) again (two .second)) }
 
   entries-are : recordsOf r .entries ≡ Es
   unfolding recordsOf

@@ -8,10 +8,10 @@ use native.Mathlib.Omega.{arith}
 use native.Mathlib.Numerals.{add-one}
 use lib.ListN.{length, drop, getD, drop-of-length-le}
 use lib.Seq.{drop-cons}
-use lib.Dec.{leb}
+use lib.Dec.{eqb, leb}
 use borrow.Author.Needs.{needs}
 use borrow.Author.Tests.{lt-ltb, le-ltb, le-leb, lt-leb, leb-true}
-use Rattle.format.specs.Reading.{lentRoom, firstHigh, allowed}
+use Rattle.format.specs.Reading.{lentRoom, firstHigh, allowed, takes}
 use Rattle.scan.proofs.Laws.Tests.{was-no, was-yes}
 use Rattle.way_in.specs.WayIn.{highOf, Caps, roomy, Rooms, GateIs}
 use Rattle.way_in.specs.declared.Lent.{Lent}
@@ -132,3 +132,15 @@ module _ (s : List ℕ) (b : Lent) {r : Bool} (e : r ≡ roomy b) where
       gate-4 j = record { answered = rw (sym e ∙ was-yes r h, le-leb (length s) 65536 i, f, le-ltb x (length s) j); passed = (i, rooms b (sym e ∙ was-yes r h)) }
 
 pub ruleset gating = (needs, gate-1, gate-2, gate-3, gate-4)
+
+-- `takes`
+module _ {ended : Bool} (radix : ℕ) where
+  pub takes-ended : ended ≡ true → eqb radix 16 ≡ takes ended radix
+  unfolding takes
+  takes-ended e = rw e
+
+  pub takes-plain : ended ≡ false → true ≡ takes ended radix
+  unfolding takes
+  takes-plain e = rw e
+
+pub ruleset radices = (needs, takes-ended, takes-plain)

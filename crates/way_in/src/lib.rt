@@ -1,4 +1,4 @@
-// The way in: refusals 1 to 3, by the lengths of the lent buffers and the bytes of the text.
+// The way in: refusals 1 to 3, by the lengths of the lent buffers and the bytes of the text; and 18, by the header's radix.
 use rooms::AREA_ROOM;
 use rooms::FIXUP_ROOM;
 use rooms::IMAGE_ROOM;
@@ -7,7 +7,7 @@ use rooms::TEXT_ROOM;
 ghost use mathlib.Core.Path.{_≡_};
 ghost use Prim.Native.Nat.{_≤_};
 ghost use lib.ListN.{length};
-ghost use Rattle.format.specs.Reading.{firstHigh};
+ghost use Rattle.format.specs.Reading.{firstHigh, takes as takesRadix};
 ghost use Rattle.way_in.specs.WayIn.{highOf, Caps, roomy, GateIs};
 
 // How long the lent buffers are.
@@ -103,4 +103,14 @@ pub fn admit(t: &[u8], lent: Lent) -> Gate
         return Gate::Shut { number: 3, at: h };
     }
     Gate::Open
+}
+
+// Whether a reading takes a header of this radix, else 18: the ended one takes X only.
+pub fn takes(ended: bool, radix: u8) -> bool
+    ensures { λ r. ⌜ r ≡ takesRadix ended radix ⌝ }
+{
+    if ended {
+        return radix == 16;
+    }
+    true
 }

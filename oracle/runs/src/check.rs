@@ -4,7 +4,7 @@ use crate::lent::{Buffers, Read, Reading, Verdict};
 use crate::told::Told;
 use gatecobalt::{Refusal, Refused};
 use oracle::generate::Random;
-use oracle::{expected, places, read, Answer, Expected};
+use oracle::{expected, places, read, Answer, Expected, Radix};
 
 /// The width of a line end at the start of these bytes; 0 for none.
 fn line_end(bytes: &[u8]) -> usize {
@@ -38,6 +38,11 @@ pub fn ended_stop(text: &[u8], rest: usize) -> Option<usize> {
         }
         width => Some(rest + width),
     }
+}
+
+/// Whether the ended reading takes the header that the Rust read: X only.
+pub fn taken(answer: &Answer) -> bool {
+    answer.tables().is_some_and(|tables| matches!(tables.format.radix, Radix::Hex))
 }
 
 /// Where a reading that was accepted ended.
@@ -100,8 +105,8 @@ impl Checker {
         self.ended(text, &answer, told, counts)
     }
 
-    /// The ended reading: 2 and 3 are the plain reading's; otherwise it reads what the Rust reads
-    /// of the text up to its stop.
+    /// The ended reading: 2 and 3 are the plain reading's; then a header without its line end is 4,
+    /// one of Q or D 18; otherwise it reads what the Rust reads of the text up to its stop.
     fn ended(
         &mut self,
         text: &[u8],
@@ -118,6 +123,9 @@ impl Checker {
         let Some(stop) = stop else {
             return self.held(got, text, answer, Expected::Refused(4, 0), 0, counts);
         };
+        if !taken(answer) {
+            return self.held(got, text, answer, Expected::Refused(18, 0), 0, counts);
+        }
         let finished = matches!(got, Ok((_, Verdict::Finished)));
         if got.is_ok() && finished != (stop == text.len()) {
             return Err("another verdict");

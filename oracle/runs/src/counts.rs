@@ -9,7 +9,7 @@ pub struct Counts {
     pub cuts: u64,
     accepted: u64,
     finished: u64,
-    refused: [u64; 15],
+    refused: [u64; 19],
     positions: u64,
     fixups: u64,
     pub targets: u64,

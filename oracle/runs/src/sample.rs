@@ -1,6 +1,6 @@
 //! The recorded sample that the program `replay` is held to: small generated texts of every kind and
 //! with every refusal, each with the Rust's answers. No real module's text is among them.
-use crate::check::ended_stop;
+use crate::check::{ended_stop, taken};
 use crate::told::{owned_rows, OwnedRows};
 use oracle::generate::{Generator, KINDS};
 use oracle::{expected, read, Answer, Expected};
@@ -61,6 +61,9 @@ fn answers(text: &[u8]) -> Option<(Told, Told)> {
     let Some(stop) = ended_stop(text, rest) else {
         return Some((plain, (4, 0, 0)));
     };
+    if !taken(&answer) {
+        return Some((plain, (18, 0, 0)));
+    }
     let part = &text[..stop];
     let shorter = read(part);
     let ended = told(part, &shorter, expected(part, &shorter), stop, text.len())?;
@@ -78,7 +81,14 @@ fn texts(seed: u64) -> Vec<Vec<u8>> {
         if text.len() <= SHORT && kinds[kind as usize] < OF_A_KIND {
             kinds[kind as usize] += 1;
             chosen.push(text);
-        } else if let Expected::Refused(refusal, _) = expected(&text, &read(&text)) {
+            continue;
+        }
+        // Of a header that both readings take.
+        let answer = read(&text);
+        if !taken(&answer) {
+            continue;
+        }
+        if let Expected::Refused(refusal, _) = expected(&text, &answer) {
             let at = LARGE.iter().position(|large| *large == refusal);
             let smaller = |held: &Vec<u8>| text.len() < held.len();
             if let Some(at) = at.filter(|at| large[*at].as_ref().is_none_or(smaller)) {
@@ -92,7 +102,7 @@ fn texts(seed: u64) -> Vec<Vec<u8>> {
 
 /// Writes the sample's `stdin`, and the `stdout` that the program has to write for it.
 pub fn write(seed: u64, folder: &Path) -> Result<bool> {
-    let (mut sample, mut count, mut refused) = (Vec::new(), 0, [0; 14]);
+    let (mut sample, mut count, mut refused) = (Vec::new(), 0, [0; 19]);
     for text in texts(seed) {
         let Some((plain, ended)) = answers(&text) else {
             continue;

@@ -1,7 +1,7 @@
 //! The Rust's answers to texts, as statements over the definition.
 use crate::antt::{row, text, truth, Statement};
 use oracle::generate::Random;
-use oracle::{expected, places, read, Answer, Expected, Fixup, Kept, Places, Reference, Tables};
+use oracle::{expected, places, read, Answer, Expected, Fixup, Kept, Places, Radix, Reference, Tables};
 
 /// Images of more positions than this are not written out.
 const POSITIONS: usize = 1_500;
@@ -112,7 +112,10 @@ pub fn of_text(random: &mut Random, name: &str, bytes: &[u8]) -> Vec<Statement> 
     let plain = accepted(bytes, tables, kept, stopped, images);
     let mut statements = vec![statement(name.into(), false, bytes, plain, images)];
     if bytes.len() <= LONG && matches!(&bytes[tables.rest..], b"\n" | b"\r\n") {
-        let ended = accepted(bytes, tables, kept, None, false);
+        let ended = match tables.format.radix {
+            Radix::Hex => accepted(bytes, tables, kept, None, false),
+            _ => refused(18, 0),
+        };
         statements.push(statement(format!("{name}Ended"), true, bytes, ended, false));
     }
     let fixups = kept.iter().flat_map(|area| &area.fixups).take(4);

@@ -23,6 +23,12 @@ header-only-requires c κs = search texts
 returns-2 : tie.Need-returns-2
 returns-2 c = search texts
 
+takes-requires : tie.Need-takes-requires
+takes-requires c κs = search texts
+
+returns-3 : tie.Need-returns-3
+returns-3 c = search texts
+
 add-at : tie.Need-add-at
 add-at c = search texts
 
@@ -47,8 +53,8 @@ same-length-4 c = search texts
 same-length-5 : tie.Need-same-length-5
 same-length-5 c = search texts
 
-returns-3 : tie.Need-returns-3
-returns-3 c = search texts
+returns-4 : tie.Need-returns-4
+returns-4 c = search texts
 
 pub read-text-spec : {M : Type 1} → statement M
 read-text-spec =
@@ -61,6 +67,8 @@ read-text-spec =
     line-ending-requires
     header-only-requires
     returns-2
+    takes-requires
+    returns-3
     add-at
     record-end-requires
     read-lines-requires
@@ -69,4 +77,4 @@ read-text-spec =
     same-length-3
     same-length-4
     same-length-5
-    returns-3)
+    returns-4)

@@ -1,0 +1,3 @@
+pub mod Convert
+pub mod Examples
+pub mod Gives

@@ -1,0 +1,4 @@
+pub mod Entries
+pub mod Lying
+pub mod Pairs
+pub mod Theorem
