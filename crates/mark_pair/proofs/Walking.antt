@@ -9,7 +9,7 @@ use native.Mathlib.Omega.{arith}
 use mir.Val.{Fits}
 use mir.Syntax.{w32, w64}
 use lib.Dec.{eqb}
-use lib.ListN.{getD, set}
+use lib.ListN.{length, getD, set}
 use borrow.Author.Needs.{needs}
 use borrow.Author.Tests.{lt-ltb, le-ltb, eq-eqb, ne-eqb}
 use Rattle.format.specs.Lists.{pick}
@@ -37,9 +37,10 @@ pub record Marking (s : Site) (wk old : List ℕ) (n : ℕ) (map : List ℕ) (e 
   pub inside : e ≤ n
   pub rest : markWalk (s .start) (s .size) wk (s .line .width + s .line .bytes) 0 (s .line .address) old ≡ markWalk (s .start) (s .size) wk (n - e) e p map
   pub ready : Ready s
+  pub long : length map ≡ length old
 
 pub mark-start : (s : Site) (wk old : List ℕ) → Ready s → {n : ℕ} → n ≡ s .line .width + s .line .bytes → Marking s wk old n old 0 (s .line .address)
-mark-start s wk old r {n} e = let z : n - 0 ≡ s .line .width + s .line .bytes = omega arith in record { whole = e; inside = omega arith; rest = rw z; ready = r }
+mark-start s wk old r {n} e = let z : n - 0 ≡ s .line .width + s .line .bytes = omega arith in record { whole = e; inside = omega arith; rest = rw z; ready = r; long = refl }
 
 walk-out : (start size : ℕ) (wk : List ℕ) (m e p : ℕ) (map : List ℕ) → size ≤ p → markWalk start size wk m e p map ≡ map
 unfolding markWalk
@@ -65,13 +66,14 @@ module _ {s : Site} {wk old : List ℕ} {n : ℕ} {map : List ℕ} {e p : ℕ} (
       pub mark-grows : Fits w32 (p + y)
       mark-grows = record { fits = omega (arith, w .ready .inside, o .grows-by, one-at-most (eqb (getD wk e 0) 1)) }
 
-      pub mark-more : e < n → Marking s wk old n new (e + 1) (p + y)
+      pub mark-more : e < n → length new ≡ length map → Marking s wk old n new (e + 1) (p + y)
       unfolding markWalk
-      mark-more h = let z : n - e ≡ suc (n - suc e) = omega arith in record {
+      mark-more h k = let z : n - e ≡ suc (n - suc e) = omega arith in record {
         whole = w .whole;
         inside = omega arith;
         rest = w .rest ∙ (ap (λ (k : ℕ). markWalk (s .start) (s .size) wk k e p map) z ∙ rw (lt-ltb p (s .size) l, add-one, o .grows-by, o .stored));
         ready = w .ready;
+        long = k ∙ w .long;
       }
 
 pub ruleset marking = (needs, mark-start, mark-end, mark-out, mark-narrow, mark-room, mark-grows, mark-more)
