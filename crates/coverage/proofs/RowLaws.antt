@@ -59,10 +59,10 @@ module _ {areas : List ℕ} {n : ℕ} {pairs content fragments : List ℕ} {many
 pub ruleset rows = (needs, rowing-start, rowing-end, rowing-low, rowing-more)
 
 -- `one_if_zero`
-pub is-zero : {x : ℕ} → x ≡ 0 → 1 ≡ pick (eqb x 0) 1 0
+pub is-zero : {x : ℕ} → x ≡ 0 → _≡_ {A = ℕ} 1 (pick (eqb x 0) 1 0)
 is-zero {x} h = rw (eq-eqb x 0 h)
 
-pub is-marked : {x : ℕ} → (x ≡ 0 → ⊥) → 0 ≡ pick (eqb x 0) 1 0
+pub is-marked : {x : ℕ} → (x ≡ 0 → ⊥) → _≡_ {A = ℕ} 0 (pick (eqb x 0) 1 0)
 is-marked {x} h = rw (ne-eqb x 0 h)
 
 pub ruleset zeros = (needs, is-zero, is-marked)

@@ -46,15 +46,15 @@ module _ {c : JumpType} where
 pub ruleset numbers = (needs, of-addr19, of-addr11, of-addr24, of-addr16, of-byte, of-other)
 
 -- `one_if`
-module _ (rows : List ℕ) (j class : ℕ) {m : ℕ} (em : m ≡ getD rows (9 * j + 3) 0) {c : JumpType} (ec : toldClass c ≡ classOf m) {x : ℕ} (ex : x ≡ classNumber (toldClass c)) where
+module _ (rows : List ℕ) (j class : ℕ) {m : ℕ} (em : m ≡ getD rows (9 * j + 3) 0) (c : JumpType) (ec : toldClass c ≡ classOf m) {x : ℕ} (ex : x ≡ classNumber (toldClass c)) where
   number-is : classNumberOf (fixupRow rows j .mode) ≡ x
   unfolding classNumberOf fixupRow fixupFrom
   number-is = sym (ex ∙ (ap classNumber ec ∙ ap (λ (y : ℕ). classNumber (classOf y)) em))
 
-  pub is-one : x ≡ class → 1 ≡ pick (eqb (classNumberOf (fixupRow rows j .mode)) class) 1 0
+  pub is-one : x ≡ class → _≡_ {A = ℕ} 1 (pick (eqb (classNumberOf (fixupRow rows j .mode)) class) 1 0)
   is-one h = rw (number-is, eq-eqb x class h)
 
-  pub is-none : (x ≡ class → ⊥) → 0 ≡ pick (eqb (classNumberOf (fixupRow rows j .mode)) class) 1 0
+  pub is-none : (x ≡ class → ⊥) → _≡_ {A = ℕ} 0 (pick (eqb (classNumberOf (fixupRow rows j .mode)) class) 1 0)
   is-none h = rw (number-is, ne-eqb x class h)
 
 pub ruleset one = (needs, is-one, is-none)
@@ -106,19 +106,19 @@ unfolding knownIn
 add-start rows k = let z : k - 0 ≡ k = omega arith in record { inside = omega arith; low = omega arith; rest = rw z (omega arith) }
 
 module _ {rows : List ℕ} {k bits j : ℕ} (w : Adding rows k bits j) where
-  pub add-end : k ≤ j → {n : ℕ} → k ≡ min n 64 → bits ≡ knownIn rows (min n 64)
+  pub add-end : k ≤ j → (n : ℕ) → k ≡ min n 64 → bits ≡ knownIn rows (min n 64)
   unfolding sum from
-  add-end h {n} e = let z : k - j ≡ 0 = omega arith in let y : sum (from (knownAt rows) j (k - j)) ≡ 0 = rw z in let x : bits ≡ knownIn rows k = omega (arith, w .rest) in x ∙ ap (knownIn rows) e
+  add-end h n e = let z : k - j ≡ 0 = omega arith in let y : sum (from (knownAt rows) j (k - j)) ≡ 0 = rw z in let x : bits ≡ knownIn rows k = omega (arith, w .rest) in x ∙ ap (knownIn rows) e
 
   module _ (h : j < k) {v x : ℕ} (ev : v ≡ knownAt rows j) (ex : x ≡ v) (small : v < 4294967296) where
-    next : sum (from (knownAt rows) j (k - j)) ≡ x + sum (from (knownAt rows) (suc j) (k - suc j))
+    next-bits : sum (from (knownAt rows) j (k - j)) ≡ x + sum (from (knownAt rows) (suc j) (k - suc j))
     unfolding sum from
-    next = let z : k - j ≡ suc (k - suc j) = omega arith in ap (λ (m : ℕ). sum (from (knownAt rows) j m)) z ∙ rw (ex, ev)
+    next-bits = let z : k - j ≡ suc (k - suc j) = omega arith in ap (λ (m : ℕ). sum (from (knownAt rows) j m)) z ∙ rw (ex, ev)
 
-    pub add-fits : {n : ℕ} → k ≡ min n 64 → Fits w64 (bits + x)
-    add-fits {n} e = record { fits = omega (arith, w .low, w .inside, e) }
+    pub add-fits : (n : ℕ) → k ≡ min n 64 → Fits w64 (bits + x)
+    add-fits n e = record { fits = omega (arith, w .low, w .inside, e) }
 
     pub add-more : Adding rows k (bits + x) (j + 1)
-    add-more = record { inside = omega arith; low = omega (arith, w .low); rest = rw add-one (omega (arith, w .rest, next)) }
+    add-more = record { inside = omega arith; low = omega (arith, w .low); rest = rw add-one (omega (arith, w .rest, next-bits)) }
 
 pub ruleset adding = (needs, add-start, add-end, add-fits, add-more)

@@ -46,10 +46,10 @@ none-is p q = rw (p, q)
 pub refused-is : {f : Figures} {c : Classes} → f ≡ ofNone .figures → c ≡ ofNone .classes → record { verdicts = ofRefused .verdicts; figures = f; classes = c } ≡ ofRefused
 refused-is p q = rw (p, q)
 
-pub one-is : (b : Bool) → b ≡ true → 1 ≡ pick b 1 0
+pub one-is : (b : Bool) → b ≡ true → _≡_ {A = ℕ} 1 (pick b 1 0)
 one-is b e = rw e
 
-pub zero-is : (b : Bool) → b ≡ false → 0 ≡ pick b 1 0
+pub zero-is : (b : Bool) → b ≡ false → _≡_ {A = ℕ} 0 (pick b 1 0)
 zero-is b e = rw e
 
 pub verdicts-are : (finished unequal : Bool) {x y z : ℕ} → x ≡ pick finished 1 0 → y ≡ pick (not finished) 1 0 → z ≡ pick unequal 1 0
