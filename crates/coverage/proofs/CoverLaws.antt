@@ -53,7 +53,7 @@ use Rattle.one_position.specs.Back.{RowsAre}
 use Rattle.one_position.specs.Explain.{Rowed}
 use Rattle.one_position.proofs.ExplainLaws.{was, short, roomy-areas, narrow, opening, rows-few, rows-of, rows-behind, records-are, form-is, says-it, zeros}
 pub use Rattle.one_position.proofs.ExplainLaws.{widths}
-use Rattle.coverage.specs.declared.Covered as say
+use Rattle.coverage.specs.declared.Covered.{Covered}
 use Rattle.coverage.specs.declared.Covered.the-variants as say
 use Rattle.coverage.specs.Rows.{RowsCover}
 use Rattle.coverage.specs.Cover.{told, MapTold, AreasCover, TablesCover}
@@ -103,7 +103,7 @@ module _ (s : List ℕ) (at : ℕ) (f : text.Form) (xs₀ ys₀ xs ys ps bs fs :
     pub tables-few : d .areas ≤ 64
     tables-few = got .areas-low
 
-    pub tables-told : {b : ℕ} → b ≡ suc (moreOf (f .width)) → {r : say.Covered} {new : List ℕ} → AreasCover xs (d .areas) ps bs fs many (f .big) b old r new
+    pub tables-told : {b : ℕ} → b ≡ suc (moreOf (f .width)) → {r : Covered} {new : List ℕ} → AreasCover xs (d .areas) ps bs fs many (f .big) b old r new
         → TablesCover s at (formOf f) ps bs fs many old r new
     tables-told {b} eb a = record {
       tells = λ w x k t o.
@@ -155,7 +155,7 @@ module _ (s ps bs fs : List ℕ) (many : ℕ) (old : List ℕ) (v : IsRead s) (o
       pub covers-behind : Fits w64 (n + k)
       covers-behind = rows-behind s ps bs fs many 0 0 v o e g i
 
-      pub covers-told : {r : say.Covered} {new : List ℕ} → TablesCover s (n + k) (formOf f) ps bs fs many old r new → CoverMeets s old (told r) new
+      pub covers-told : {r : Covered} {new : List ℕ} → TablesCover s (n + k) (formOf f) ps bs fs many old r new → CoverMeets s old (told r) new
       covers-told {r} {new} a =
           let its = v .as-read in
           let its-pairs = v .as-read .parsed .records .pairs in

@@ -31,29 +31,31 @@ use Rattle.coverage.specs.Rows.{RowsMark, RowsCover}
 pub record Rowing (areas : List ℕ) (n : ℕ) (pairs content fragments : List ℕ) (many : ℕ) (big : Bool) (width : ℕ) (old map : List ℕ) (k : ℕ) : Type 0 where
   pub inside : k ≤ many
   pub rest : (fm : Form) (t : Tables) (qs : List (Taken Pair)) → Held fm t areas n big width → RowsAre fm t pairs content fragments many qs → markedBy fm t qs old ≡ markedBy fm t (drop k qs) map
+  pub long : length map ≡ length old
 
 pub rowing-start : (areas : List ℕ) (n : ℕ) (pairs content fragments : List ℕ) (many : ℕ) (big : Bool) (width : ℕ) (old : List ℕ) → Rowing areas n pairs content fragments many big width old old 0
-rowing-start areas n pairs content fragments many big width old = record { inside = omega arith; rest = λ fm t qs h r. refl }
+rowing-start areas n pairs content fragments many big width old = record { inside = omega arith; rest = λ fm t qs h r. refl; long = refl }
 
 module _ {areas : List ℕ} {n : ℕ} {pairs content fragments : List ℕ} {many : ℕ} {big : Bool} {width : ℕ} {old map : List ℕ} {k : ℕ} (w : Rowing areas n pairs content fragments many big width old map k) where
   pub rowing-end : many ≤ k → RowsMark areas n pairs content fragments many big width old map
   unfolding markedBy
   rowing-end l = record {
-    marks = λ fm t qs h r. sym (w .rest fm t qs h r ∙ ap (λ (ps : List (Taken Pair)). markedBy fm t ps map) (drop-of-length-le qs (omega (arith, r .many))));
+    marks = λ fm t qs h r. sym (w .rest fm t qs h r ∙ ap (λ (ps : List (Taken Pair)). markedBy fm t ps map) (drop-of-length-le qs {i = k} (omega (arith, r .many))));
   }
 
   pub rowing-low : k < many → many ≤ 4096 → 7 * k ≤ 28672
   rowing-low l m = omega arith
 
-  pub rowing-more : k < many → {new : List ℕ} → RowMarks areas n pairs content fragments (7 * k) big width map new → Rowing areas n pairs content fragments many big width old new (k + 1)
+  pub rowing-more : k < many → {new : List ℕ} → RowMarks areas n pairs content fragments (7 * k) big width map new → length new ≡ length map → Rowing areas n pairs content fragments many big width old new (k + 1)
   unfolding markedBy
-  rowing-more l {new} a = record {
+  rowing-more l {new} a g = record {
     inside = omega arith;
     rest = λ fm t qs h r.
         let x = r .each k l in
         let e : drop k qs ≡ record { place = x .place; end = 0; body = placed (x .content-is) (x .relocation) } ∷ drop (suc k) qs = drop-cons qs k noPair (omega (arith, r .many)) ∙ ap (λ (q : Taken Pair). q ∷ drop (suc k) qs) (x .is) in
         let m = a .marks fm t (x .place) (x .content-is) (x .relocation) h (x .stands) (x .sound) in
         rw add-one (w .rest fm t qs h r ∙ (ap (λ (ps : List (Taken Pair)). markedBy fm t ps map) e ∙ ap (λ (zs : List ℕ). markedBy fm t (drop (suc k) qs) zs) (sym m)));
+    long = g ∙ w .long;
   }
 
 pub ruleset rows = (needs, rowing-start, rowing-end, rowing-low, rowing-more)

@@ -8,7 +8,7 @@ use lib.ListN.{length}
 use Rattle.format.specs.Target.{wrapAdd}
 use Rattle.totals.specs.declared.Totals.{Totals}
 use Rattle.totals.specs.Totals.{ofNone, plus, plusClasses, plusFigures, plusVerdicts}
-use Rattle.totals.specs.Many.{added, AllLow, byte, exactly, finished, fixups, kept, known, modules, mostModules, mostOfOne, number, Number, positions, refused, stopped, unequal, unwritten, addr11, addr16, addr19, addr24}
+use Rattle.totals.specs.Many.{added, AllLow, byte, endOfTotals, exactly, finished, fixups, kept, known, modules, mostModules, mostOfOne, number, Number, positions, refused, stopped, unequal, unwritten, addr11, addr16, addr19, addr24}
 
 -- each number is added by itself
 pub plus-number : (k : Number) (a b : Totals) → number k (plus a b) ≡ wrapAdd (number k a) (number k b)
@@ -29,7 +29,7 @@ plus-number addr24 a b = refl
 plus-number addr16 a b = refl
 plus-number byte a b = refl
 
-small : (a b : ℕ) → a + b < 18446744073709551616 → wrapAdd a b ≡ a + b
+small : (a b : ℕ) → a + b < endOfTotals → wrapAdd a b ≡ a + b
 unfolding wrapAdd
 small a b h = omega arith
 
@@ -38,7 +38,7 @@ unfolding exactly
 exact-low g [] h = omega arith
 exact-low g (m ∷ ms) h = omega (arith, h .0, exact-low g ms (h .1))
 
-exact-from : (k : Number) (t : Totals) (ms : List Totals) → number k t + exactly (number k) ms < 18446744073709551616 → number k (added t ms) ≡ number k t + exactly (number k) ms
+exact-from : (k : Number) (t : Totals) (ms : List Totals) → number k t + exactly (number k) ms < endOfTotals → number k (added t ms) ≡ number k t + exactly (number k) ms
 unfolding added exactly
 exact-from k t [] h = omega arith
 exact-from k t (m ∷ ms) h =

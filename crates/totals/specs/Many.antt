@@ -24,7 +24,11 @@ mostModules = 10000
 abbrev pub mostOfOne : ℕ
 mostOfOne = 64 * 4294967295
 
--- each module's number is no more than that
+-- a number of 64 bits is less than this
+abbrev pub endOfTotals : ℕ
+endOfTotals = 18446744073709551616
+
+-- each module's number is no more than the most
 abbrev pub AllLow : (Totals → ℕ) → List Totals → Type 0
 AllLow g [] = Unit {0}
 AllLow g (m ∷ ms) = (g m ≤ mostOfOne) × AllLow g ms

@@ -1,8 +1,10 @@
 // The totals of a library: how many modules were read and how they ended, and the sums of their figures, each of 64 bits.
 use figures::Classes;
 ghost use mathlib.Core.Path.{_≡_};
+ghost use lib.Dec.{ltb};
 ghost use Rattle.format.specs.Lists.{pick};
 ghost use Rattle.format.specs.Target.{wrapAdd};
+ghost use Rattle.totals.specs.Many.{mostModules};
 ghost use Rattle.totals.specs.Totals.{ofModule, ofNone, ofRefused, plus, plusClasses, plusFigures, plusVerdicts, verdictsOf};
 
 // Modules that were read and that were refused; of the first those that are finished, stopped, and whose counts are not equal.
@@ -180,4 +182,11 @@ pub fn module(figures: Figures, classes: Classes, finished: bool, unequal: bool)
         figures: figures,
         classes: classes,
     }
+}
+
+// Whether one name more is taken behind so many; 17 if not.
+pub fn takes_more(names: u64) -> bool
+    ensures { λ r. ⌜ r ≡ ltb names mostModules ⌝ }
+{
+    names < 10000
 }
