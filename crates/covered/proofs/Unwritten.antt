@@ -61,6 +61,7 @@ module _ (text : List ℕ) (id position i : ℕ) (w : Read) (accepted : read tru
 
   -- for every accepted module and every position of a kept area: 0 in the map exactly where the reader of one position finds no line
   pub unwritten-exactly-if-no-line : (getD map place 0 ≡ 0 → writerIn true roomy text id position ≡ fine none) × (writerIn true roomy text id position ≡ fine none → getD map place 0 ≡ 0)
-  unwritten-exactly-if-no-line =
-      (λ h. answer ∙ ap (λ (o : Option Found). fine o) (unwritten-is last (sym marked ∙ h)),
-      λ h. marked ∙ ap (λ (o : Option Found). pick (written o) 1 0) (found-none last (sym answer ∙ h)))
+  unwritten-exactly-if-no-line = (
+    λ h. answer ∙ ap (λ (o : Option Found). fine o) (unwritten-is last (sym marked ∙ h)),
+    λ h. marked ∙ ap (λ (o : Option Found). pick (written o) 1 0) (found-none last (sym answer ∙ h)),
+  )

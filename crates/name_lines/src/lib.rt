@@ -47,7 +47,7 @@ fn taken(block: &[u8], at: usize, end: usize) -> Step {
 }
 
 // The next byte; the block is filled again where none is left in it.
-fn step(block: &mut [u8], c: Cursor) -> Step {
+fn next_byte(block: &mut [u8], c: Cursor) -> Step {
     let at = c.at;
     let end = c.end;
     if at < end {
@@ -72,10 +72,7 @@ fn line_of(n: usize, c: Cursor) -> Line {
     if 4095 < n {
         return Line::Long { next: c };
     }
-    Line::Name {
-        length: n,
-        next: c,
-    }
+    Line::Name { length: n, next: c }
 }
 
 // The last line, which lacks its line end; there is none where it is empty.
@@ -92,7 +89,7 @@ fn line_in(block: &mut [u8], name: &mut [u8], c: Cursor) -> Line {
     let mut now = c;
     let mut n = 0;
     while 0 < turns {
-        match step(block, now) {
+        match next_byte(block, now) {
             Step::Failed => {
                 return Line::Failed;
             }

@@ -4,11 +4,10 @@ mod module;
 mod words;
 
 pub use file::report_file;
-pub use words::over;
-pub use words::totals_lines;
-
 use sink::Sink;
 use totals::Totals;
+pub use words::over;
+pub use words::totals_lines;
 
 // What waits to be written, and the totals so far.
 pub struct Tally {

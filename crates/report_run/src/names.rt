@@ -112,7 +112,7 @@ fn file_of(
 }
 
 // The next line.
-fn turn(g: Going, out: &mut Buffer, block: &mut Block, name: &mut Name) -> Turn {
+fn next_turn(g: Going, out: &mut Buffer, block: &mut Block, name: &mut Name) -> Turn {
     let tally = g.tally;
     let cursor = g.cursor;
     if tally.sink.broken {
@@ -137,7 +137,7 @@ fn all(g: Going, out: &mut Buffer, block: &mut Block, name: &mut Name) -> Tally 
     let mut turns = u64::MAX;
     let mut now = g;
     while 0 < turns {
-        match turn(now, out, block, name) {
+        match next_turn(now, out, block, name) {
             Turn::On(next) => {
                 now = next;
             }
