@@ -60,17 +60,17 @@ use Rattle.one_position.proofs.Rows.{all-sound, placed-last, rows-are}
 
 -- a text that is read is no longer than its bound, and its areas take no more than theirs
 module _ (s : List ℕ) (w : Read) (e : read true roomy s ≡ fine w) where
-  was : WasRead true roomy s w
+  pub was : WasRead true roomy s w
   was = what-was-read true roomy s w e
 
-  short : length s ≤ 65536
+  pub short : length s ≤ 65536
   unfolding allowed
   short =
       let a = passed (lentRoom roomy) _ 1 0 (was .passes) (was .allows) in
       let b = passed (leb (length s) 65536) _ 2 0 (was .passes) (a .1) in
       leb-true (length s) 65536 (b .0)
 
-  roomy-areas : total (w .built .tables .areas) ≤ 65536
+  pub roomy-areas : total (w .built .tables .areas) ≤ 65536
   unfolding room
   roomy-areas = leb-true (total (w .built .tables .areas)) 65536 (passed (leb (total (w .built .tables .areas)) 65536) _ 9 0 (w .built .size) (was .builds .roomy) .0)
 
@@ -87,7 +87,7 @@ four-bytes e = rw e
 pub ruleset widths = (needs, two-bytes, three-bytes, four-bytes)
 
 -- `by_tables`
-narrow : (x : Width) → suc (moreOf x) ≤ 4
+pub narrow : (x : Width) → suc (moreOf x) ≤ 4
 narrow Two = omega arith
 narrow Three = omega arith
 narrow Four = omega arith
@@ -152,7 +152,7 @@ module _ (s ps bs fs : List ℕ) (many id position : ℕ) (v : IsRead s) (o : Ro
   abbrev its-pairs : List (Taken Pair)
   its-pairs = v .as-read .parsed .records .pairs
 
-  opening : Opened s (v .as-read .parsed)
+  pub opening : Opened s (v .as-read .parsed)
   opening = opens s (v .as-read .parsed) (was s (v .as-read) (v .is) .parses)
 
   pub rows-few : many ≤ 4096
@@ -175,7 +175,7 @@ module _ (s ps bs fs : List ℕ) (many id position : ℕ) (v : IsRead s) (o : Ro
     fragments-at = refl;
   }
 
-  rows-of : RowsAre (its .parsed .form) (its .built .tables) ps bs fs many (placedOf its-pairs)
+  pub rows-of : RowsAre (its .parsed .form) (its .built .tables) ps bs fs many (placedOf its-pairs)
   unfolding counted placing
   rows-of =
       let b = was s (v .as-read) (v .is) .builds in
@@ -197,14 +197,14 @@ module _ (s ps bs fs : List ℕ) (many id position : ℕ) (v : IsRead s) (o : Ro
         pub rows-behind : Fits w64 (n + k)
         rows-behind = record { fits = omega (arith, end-is, i, end-within (drop n s), length-drop n s, short s (v .as-read) (v .is)) }
 
-        records-are : recordsAt true (formOf f) s (n + k) ≡ its .parsed .records
+        pub records-are : recordsAt true (formOf f) s (n + k) ≡ its .parsed .records
         unfolding recordsAt linesOf opened
         records-are =
             ap (λ (m : ℕ). records true (formOf f) (n + m) (lines (drop (n + m) s))) end-is
             ∙ (ap (λ (x : Head). records true (x .form) (x .next + suc (opening .e)) (lines (drop (x .next + suc (opening .e)) s))) head-is
             ∙ ap (λ (x : Parsed). x .records) (opening .same))
 
-        form-is : formOf f ≡ its .parsed .form
+        pub form-is : formOf f ≡ its .parsed .form
         unfolding opened
         form-is = ap (λ (x : Head). x .form) head-is ∙ ap (λ (x : Parsed). x .form) (opening .same)
 
@@ -230,7 +230,7 @@ module _ (s ps₀ bs₀ fs₀ : List ℕ) (id position : ℕ) (lp : length ps₀
   unfolding paper.pairsRoom
   has-room = rw (lp, lb, lf)
 
-  says-it : rows.told q ≡ paper.pairsFrom (read true roomy s) .answer
+  pub says-it : rows.told q ≡ paper.pairsFrom (read true roomy s) .answer
   unfolding paper.readPairs
   says-it = rw has-room at (m .says)
 

@@ -43,7 +43,7 @@ use Rattle.one_position.proofs.Cells.{left-is-a-cell}
 
 -- `by_rows`
 module _ (l : Line) (h : Home) (bs fragments : List ℕ) (row want : ℕ) where
-  fits-fair : Fair l h bs → cellFits l h bs ≡ true
+  pub fits-fair : Fair l h bs → cellFits l h bs ≡ true
   unfolding cellFits lineFits imageFits
   fits-fair f =
       rw (
@@ -87,19 +87,19 @@ module _ {pairs content fragments : List ℕ} {p place : ℕ} {c : Content} {r :
   unfolding pairFrom
   the-place = rw (s .row) (ap (λ (q : Taken Pair). q .place) (s .pair))
 
-  the-address : getD pairs (p + 1) 0 ≡ c .address
+  pub the-address : getD pairs (p + 1) 0 ≡ c .address
   unfolding pairFrom
   the-address = rw (s .row) (ap (λ (q : Taken Pair). contentOfBody (q .body) .address) (s .pair))
 
-  the-area : getD pairs (p + 2) 0 ≡ r .area
+  pub the-area : getD pairs (p + 2) 0 ≡ r .area
   unfolding pairFrom
   the-area = rw (s .row) (ap (λ (q : Taken Pair). relocationOfBody (q .body) .area) (s .pair))
 
-  the-bytes : take (getD pairs (p + 4) 0) (drop (getD pairs (p + 3) 0) content) ≡ c .bytes
+  pub the-bytes : take (getD pairs (p + 4) 0) (drop (getD pairs (p + 3) 0) content) ≡ c .bytes
   unfolding pairFrom
   the-bytes = rw (s .row) (ap (λ (q : Taken Pair). contentOfBody (q .body) .bytes) (s .pair))
 
-  the-fragments : from (fragmentFrom fragments) (getD pairs (p + 5) 0) (getD pairs (p + 6) 0) ≡ r .fragments
+  pub the-fragments : from (fragmentFrom fragments) (getD pairs (p + 5) 0) (getD pairs (p + 6) 0) ≡ r .fragments
   unfolding pairFrom
   the-fragments = rw (s .row) (ap (λ (q : Taken Pair). relocationOfBody (q .body) .fragments) (s .pair))
 
@@ -129,7 +129,7 @@ here-is fm t id place m c r bs want k i e =
     rw (i, e, k) (ap (λ (o : Option Left). fine o) (left-is-a-cell (walkOf fm t place id c r) (fm .addressLength + length (c .bytes)) 0 (c .address) want))
 
 -- the numbers of a row are the pair's
-line-by : {pairs content fragments : List ℕ} {p : ℕ} (fm : Form) (place : ℕ) (c : Content) (r : Relocation) (big : Bool) (width : ℕ) → big ≡ fm .big → width ≡ fm .addressLength
+pub line-by : {pairs content fragments : List ℕ} {p : ℕ} (fm : Form) (place : ℕ) (c : Content) (r : Relocation) (big : Bool) (width : ℕ) → big ≡ fm .big → width ≡ fm .addressLength
     → Stands pairs content fragments p place c r → getD pairs (p + 6) 0 ≡ length (r .fragments) → lineFrom pairs p big width ≡ lineBy fm place c r
 unfolding lineFrom
 line-by fm place c r big width b w s f =
