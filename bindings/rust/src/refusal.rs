@@ -1,7 +1,7 @@
 //! Refusals.
 use std::{error, fmt};
 
-/// Why a text, a target or a pattern book is refused. The number of each is that of the rules.
+/// Why a text, a target, rows or a pattern book is refused. The number of each is that of the rules.
 #[derive(Clone, Copy, Debug, PartialEq, Eq, PartialOrd, Ord, Hash)]
 #[non_exhaustive]
 #[repr(u32)]
@@ -34,6 +34,10 @@ pub enum Refusal {
     ManyFixups = 13,
     /// A target of a mode over 2,047, of a number of 24 bits or more, or of too few bytes.
     NoTarget = 14,
+    /// The text that would be written from rows would not give them back.
+    NotGivenBack = 15,
+    /// Too little room for what is to be written.
+    ShortText = 16,
     /// No kept area with this id, or no such position in it.
     NoPosition = 20,
     /// A pattern book's contents are out of order, have equal names or point out of the file.
@@ -47,7 +51,7 @@ pub enum Refusal {
 }
 
 /// Every refusal, in the order of their numbers.
-const ALL: [Refusal; 19] = [
+const ALL: [Refusal; 21] = [
     Refusal::ShortBuffer,
     Refusal::LongText,
     Refusal::HighByte,
@@ -62,6 +66,8 @@ const ALL: [Refusal; 19] = [
     Refusal::NoNumber,
     Refusal::ManyFixups,
     Refusal::NoTarget,
+    Refusal::NotGivenBack,
+    Refusal::ShortText,
     Refusal::NoPosition,
     Refusal::NoContents,
     Refusal::NotClosed,
@@ -70,7 +76,7 @@ const ALL: [Refusal; 19] = [
 ];
 
 impl Refusal {
-    /// Its number, 1 to 14 or 20 to 24.
+    /// Its number, 1 to 16 or 20 to 24.
     #[must_use]
     pub fn number(self) -> u32 {
         self as u32
@@ -102,6 +108,8 @@ impl Refusal {
             Refusal::NoTarget => {
                 "a target of a mode over 2,047, a number of 24 bits or more, or too few bytes"
             }
+            Refusal::NotGivenBack => "the text would be refused or read back otherwise",
+            Refusal::ShortText => "too little room for the text",
             Refusal::NoPosition => "no kept area with this id, or no such position in it",
             Refusal::NoContents => "contents out of order, with equal names or out of the file",
             Refusal::NotClosed => "a gap, an overlap or bytes left over",
