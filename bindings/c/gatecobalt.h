@@ -138,6 +138,36 @@ typedef struct {
     size_t rows;
 } gatecobalt_changed;
 
+/* Numbers in a row of the T and R records. A pair: the T's place in the text, its address, its area's
+ * index, its first content byte and how many it has, its first fragment and how many it has. A
+ * fragment: mode, entry, index. A T with a P line has no row. */
+#define GATECOBALT_PAIR_WIDTH 7
+#define GATECOBALT_FRAGMENT_WIDTH 3
+
+/* The room that each buffer for records has to have, in elements: bounds that no accepted text
+ * passes. A shorter one gives refusal 1. */
+#define GATECOBALT_PAIRS (4096 * GATECOBALT_PAIR_WIDTH)
+#define GATECOBALT_CONTENT 32768
+#define GATECOBALT_FRAGMENTS (8192 * GATECOBALT_FRAGMENT_WIDTH)
+
+/* The T and R records of a text: a refusal's number (1 to 13) and place, all else 0, and no buffer has
+ * changed; or 0 and how many pairs, content bytes and fragments there are. */
+typedef struct {
+    uint32_t refusal;
+    size_t place;
+    size_t pairs;
+    size_t content;
+    size_t fragments;
+} gatecobalt_records;
+
+/* A written text: refusal 15 if it would not give its rows back, 16 if the buffer has too little room
+ * for it, and then the buffer has not changed; or 0 and how many bytes were written. Behind them the
+ * buffer keeps its bytes. */
+typedef struct {
+    uint32_t refusal;
+    size_t bytes;
+} gatecobalt_written;
+
 typedef struct {
     size_t area;
     size_t symbol;
@@ -255,6 +285,26 @@ gatecobalt_copied gatecobalt_book_pattern(const uint8_t *book, size_t book_lengt
  * read each text by gatecobalt_read_ended. It takes under 1 MiB of stack and no heap. */
 gatecobalt_changed gatecobalt_changes(const uint8_t *older, size_t older_length,
     const uint8_t *newer, size_t newer_length, uint32_t *list, size_t list_length);
+
+/* The T and R records of a text that the ended reading accepts; a text that is stopped gives those up
+ * to there. It takes under 1 MiB of stack and no heap. */
+gatecobalt_records gatecobalt_read_pairs(const uint8_t *text, size_t text_length,
+    uint32_t *pairs, size_t pairs_length, uint8_t *content, size_t content_length,
+    uint32_t *fragments, size_t fragments_length);
+
+/* Writes a module: an X header with this order and so many bytes in an address, the A and S lines of
+ * so many area and symbol rows, the T and R lines of so many pairs. Names lie in the text; a symbol
+ * stands behind as many areas as its row's last number says; the T's place and an area's known bits
+ * are not looked at. Any rows may be passed, and counts past them. 15 exactly where an ended reading
+ * of what would be written is refused, is not finished, or gives back other areas, symbols, T and R
+ * records (names as bytes, places aside), or where the width is not 2, 3 or 4; then 16. It takes under
+ * 1 MiB of stack and no heap. */
+gatecobalt_written gatecobalt_write(bool big, uint32_t width, const uint8_t *text, size_t text_length,
+    const uint32_t *areas, size_t areas_length, size_t area_count,
+    const uint32_t *symbols, size_t symbols_length, size_t symbol_count,
+    const uint32_t *pairs, size_t pairs_length, size_t pair_count,
+    const uint8_t *content, size_t content_length, const uint32_t *fragments, size_t fragments_length,
+    uint8_t *out, size_t out_length);
 
 /* The widths and rooms above, as the library has them. */
 gatecobalt_row_widths gatecobalt_widths(void);

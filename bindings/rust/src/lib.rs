@@ -11,10 +11,12 @@ mod module;
 mod plain;
 mod raw;
 mod raw_book;
+mod raw_write;
 mod reader;
 mod records;
 mod refusal;
 mod segment;
+mod write;
 
 pub use book::{Book, Pattern};
 pub use changes::{
@@ -30,3 +32,4 @@ pub use reader::Reader;
 pub use records::{header, Area, Counts, FixupRow, Header, Kept, Records, Refers, Symbol};
 pub use refusal::{Refusal, Refused};
 pub use segment::{corrected_target, target, Fixup, Reference, Segment};
+pub use write::{pairs, Pairs, Rows, FRAGMENT_WIDTH, PAIR_WIDTH};

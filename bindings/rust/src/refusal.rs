@@ -1,7 +1,7 @@
 //! Refusals.
 use std::{error, fmt};
 
-/// Why a text, a target or a pattern book is refused. The number of each is that of the rules.
+/// Why a text, a target, rows or a pattern book is refused. The number of each is that of the rules.
 #[derive(Clone, Copy, Debug, PartialEq, Eq, PartialOrd, Ord, Hash)]
 #[non_exhaustive]
 #[repr(u32)]
@@ -34,6 +34,10 @@ pub enum Refusal {
     ManyFixups = 13,
     /// A target of a mode over 2,047, of a number of 24 bits or more, or of too few bytes.
     NoTarget = 14,
+    /// The text that would be written from rows would not give them back.
+    NotGivenBack = 15,
+    /// Too little room for what is to be written.
+    ShortText = 16,
     /// A header of Q or D, which only the plain reading takes.
     NotHex = 18,
     /// No kept area with this id, or no such position in it.
@@ -49,7 +53,7 @@ pub enum Refusal {
 }
 
 /// Every refusal, in the order of their numbers.
-const ALL: [Refusal; 20] = [
+const ALL: [Refusal; 22] = [
     Refusal::ShortBuffer,
     Refusal::LongText,
     Refusal::HighByte,
@@ -64,6 +68,8 @@ const ALL: [Refusal; 20] = [
     Refusal::NoNumber,
     Refusal::ManyFixups,
     Refusal::NoTarget,
+    Refusal::NotGivenBack,
+    Refusal::ShortText,
     Refusal::NotHex,
     Refusal::NoPosition,
     Refusal::NoContents,
@@ -73,7 +79,7 @@ const ALL: [Refusal; 20] = [
 ];
 
 impl Refusal {
-    /// Its number, 1 to 14, 18 or 20 to 24.
+    /// Its number, 1 to 16, 18 or 20 to 24.
     #[must_use]
     pub fn number(self) -> u32 {
         self as u32
@@ -105,6 +111,8 @@ impl Refusal {
             Refusal::NoTarget => {
                 "a target of a mode over 2,047, a number of 24 bits or more, or too few bytes"
             }
+            Refusal::NotGivenBack => "the text would be refused or read back otherwise",
+            Refusal::ShortText => "too little room for the text",
             Refusal::NotHex => "a header of Q or D",
             Refusal::NoPosition => "no kept area with this id, or no such position in it",
             Refusal::NoContents => "contents out of order, with equal names or out of the file",

@@ -3,7 +3,7 @@ ghost use mathlib.Core.Path.{_≡_};
 ghost use Prim.Native.Nat.{suc, _≤_};
 ghost use lib.ListN.{length};
 ghost use Rattle.header.specs.Told.{formOf, moreOf};
-ghost use Rattle.records.specs.Walking.{IsRead};
+ghost use Rattle.admits.specs.Admits.{IsRead};
 ghost use Rattle.one_position.specs.Explain.{Rowed, TablesTell, Told};
 use crate::Explained;
 use crate::answer::answer;

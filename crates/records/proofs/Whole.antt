@@ -35,14 +35,15 @@ use Rattle.steps.proofs.Stored.{laid}
 use Rattle.record_rows.specs.RecordRows.{allFragments, contentBytes, fragmentRows, pairCount, pairRows}
 use Rattle.record_rows.specs.ReadPairs as paper
 use Rattle.record_rows.proofs.Roomy.{few-records, rows-fit}
+use Rattle.admits.specs.Admits.{GateIs, IsRead}
+use Rattle.admits.specs.declared.Gate.{Gate}
+use Rattle.admits.specs.declared.Gate.the-variants.{Open, Shut}
 use Rattle.records.specs.Told.{held, told, toldCounts}
 use Rattle.records.specs.Storing.{Stored}
-use Rattle.records.specs.Walking.{EachFits, Fitting, GateIs, IsRead, Laid, PairFits, TwoAt, roomFor}
+use Rattle.records.specs.Walking.{EachFits, Fitting, Laid, PairFits, TwoAt, roomFor}
 use Rattle.records.specs.declared.PairCounts.{PairCounts}
 use Rattle.records.specs.declared.PairsAnswer.{PairsAnswer}
 use Rattle.records.specs.declared.PairsAnswer.the-variants.{Accepted, Refusal}
-use Rattle.records.specs.declared.gate.Gate.{Gate}
-use Rattle.records.specs.declared.gate.Gate.the-variants.{Open, Shut}
 
 -- every pair of a text that is read fits
 fits-one : (m place k : ℕ) (q : the.Pair) → fitsBody m place q ≡ fine k → PairFits q

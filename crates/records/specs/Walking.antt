@@ -7,10 +7,9 @@ use mathlib.Core.List.{List, [], _∷_}
 use lib.ListN.{length}
 use lib.Dec.{leb}
 use Rattle.format.specs.Header.{Form}
-use Rattle.format.specs.Outcome.{fine, refused}
 use Rattle.format.specs.Pairs.{Pair, placed, skipped}
 use Rattle.format.specs.Records.{Taken}
-use Rattle.format.specs.Reading.{Read, lentRoom, read}
+use Rattle.format.specs.Reading.{read}
 use Rattle.laws.specs.Places.{pairsAt, recordsAt}
 use Rattle.record_rows.specs.RecordRows.{fragmentColumns, mostContent, mostFragments, mostPairs, pairColumns}
 use Rattle.record_rows.specs.ReadPairs.{HeldPairs, laidOver, pairsFrom, roomy}
@@ -18,8 +17,6 @@ use Rattle.records.specs.Storing.{Onward}
 use Rattle.records.specs.Told.{told}
 use Rattle.records.specs.declared.PairsAnswer.{PairsAnswer}
 use Rattle.records.specs.declared.PairCounts.{PairCounts}
-use Rattle.records.specs.declared.gate.Gate.{Gate}
-use Rattle.records.specs.declared.gate.Gate.the-variants.{Open, Shut}
 use Rattle.records.specs.declared.walk.Going.{Going}
 use Rattle.records.specs.declared.walk.Turn.{Turn}
 use Rattle.records.specs.declared.walk.Turn.the-variants.{Done, Goes}
@@ -69,22 +66,6 @@ pub record TwoAt (f : Form) (text : List ℕ) (at r : ℕ) : Type 0 where
 -- 1: whether buffers of these lengths have room for their bounds
 unfoldable pub roomFor : (pairs content fragments : ℕ) → Bool
 roomFor p c f = leb (mostPairs * pairColumns) p && leb mostContent c && leb (mostFragments * fragmentColumns) f
-
--- buffers that a reading has room in
-pub record LentRoom (areas symbols values masks fixups : ℕ) : Type 0 where
-  pub room : lentRoom (record { areas = areas; symbols = symbols; values = values; masks = masks; fixups = fixups }) ≡ true
-
--- a text that the ended reading accepts
-pub record IsRead (text : List ℕ) : Type 0 where
-  pub as-read : Read
-  pub is : read true roomy text ≡ fine as-read
-
-abbrev pub Passes : List ℕ → Gate → Type 0
-Passes text Open = IsRead text
-Passes text (Shut n p) = read true roomy text ≡ refused n p
-
-pub record GateIs (text : List ℕ) (r : Gate) : Type 0 where
-  pub passes : Passes text r
 
 -- the answer and the rows of a text that is read
 pub record Laid (text : List ℕ) (old : HeldPairs) (r : PairsAnswer) (new : HeldPairs) : Type 0 where

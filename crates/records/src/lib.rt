@@ -1,14 +1,14 @@
 // The T and R records of a module's text as rows in three lent buffers, or a refusal that changes none of them.
 ghost use Rattle.record_rows.specs.ReadPairs.{PairsMeet};
 ghost use Rattle.records.specs.Told.{held, told};
-use crate::gate::Gate;
-use crate::gate::admit;
-use crate::gate::has_room;
 use crate::laying::lay_text;
+use crate::room::has_room;
+use admits::Gate;
+use admits::admit;
 
-mod gate;
 mod group_two;
 mod laying;
+mod room;
 mod rows;
 mod walk;
 

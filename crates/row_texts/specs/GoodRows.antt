@@ -1,16 +1,17 @@
 -- The test of rows before they are written: what `Good` asks, row by row, that symbols stand in the order of their areas, and that all lies in what was lent.
 -- Assumes nothing.
 use Prim.Native.Nat.{suc, zero, ℕ, _*_, _+_, _/_, _^_}
+use mathlib.Core.Path.{_≡_, refl}
 use mathlib.Core.Bool.{Bool, false, true, _&&_}
-use mathlib.Core.List.{List, [], _∷_}
+use mathlib.Core.List.{List, [], _++_, _∷_}
 use lib.ListN.{getD, length}
 use lib.Dec.{leb, ltb}
 use Rattle.format.specs.Lists.{pick}
-use Rattle.format.specs.Bytes.{isNameByte}
+use Rattle.format.specs.Bytes.{isBlank, isCrOrLf, isNameByte, isWhite}
 use Rattle.format.specs.Header.{Form}
 use Rattle.format.specs.Pairs.{Fragment}
 use Rattle.laws.specs.Rows.{areaAt, symbolAt}
-use Rattle.row_parts.specs.Parts.{nameIn}
+use Rattle.row_parts.specs.Parts.{nameIn, partOf}
 use Rattle.relocation_out.specs.RelocationOut.{rowAt}
 use Rattle.row_texts.specs.RowRecords.{Rows, column}
 
@@ -66,3 +67,35 @@ goodRows f r =
     pick (all (goodArea (r .text) (r .areas)) 0 (r .areaCount))
     (pick (goodSymbols (r .text) (r .areaCount) (r .symbols) 0 0 (r .symbolCount))
     (goodPairs (f .addressLength) (r .pairs) (r .pairCount) (length (r .content)) (r .fragments)) false) false
+
+-- ------------------------------------------------------------------ small rows, by computing
+
+-- the row of a Def named a, of value 0, behind so many areas
+abbrev pub symbol : ℕ → List ℕ
+symbol k = 0 ∷ 1 ∷ 0 ∷ 0 ∷ k ∷ []
+
+-- the row of a pair at address 0 of the first area, with no fragments and so many content bytes from one on
+abbrev pub pair : (first count : ℕ) → List ℕ
+pair first count = 0 ∷ 0 ∷ 0 ∷ first ∷ count ∷ 0 ∷ 0 ∷ []
+
+-- two symbols of a module with one area: the first before it and the second behind it, but not the other way round, and none behind a second area
+pub in-order : goodSymbols (97 ∷ []) 1 (symbol 0 ++ symbol 1) 0 0 2 ≡ true
+unfolding goodSymbols column goodName goodBytes goodByte symbolAt partOf isNameByte isWhite isBlank isCrOrLf
+in-order = refl
+
+pub out-of-order : goodSymbols (97 ∷ []) 1 (symbol 1 ++ symbol 0) 0 0 2 ≡ false
+unfolding goodSymbols column goodName goodBytes goodByte symbolAt partOf isNameByte isWhite isBlank isCrOrLf
+out-of-order = refl
+
+pub past-the-areas : goodSymbols (97 ∷ []) 1 (symbol 2) 0 0 1 ≡ false
+unfolding goodSymbols column goodName goodBytes goodByte symbolAt partOf isNameByte isWhite isBlank isCrOrLf
+past-the-areas = refl
+
+-- a pair of two content bytes where two are lent: from the first on, but not from the second on
+pub content-inside : goodPair 2 (pair 0 2) 2 [] 0 ≡ true
+unfolding goodPair goodFragments all
+content-inside = refl
+
+pub content-past : goodPair 2 (pair 1 2) 2 [] 0 ≡ false
+unfolding goodPair goodFragments all
+content-past = refl

@@ -1,8 +1,6 @@
 // Takes symbols out of an object module: strip [--] NAME..., with the module on standard input.
 mod module;
 mod names;
-mod rows;
-mod same;
 mod told;
 
 use console::Input;
@@ -20,7 +18,7 @@ fn strip_first(room: &Room, n: usize, asked: Asked) {
 fn strip_standard(asked: Asked) {
     let mut room = [0u8; INPUT_ROOM];
     match console::fill(libc::STDIN_FILENO, &mut room) {
-        Input::Failed => told::failed(b"-"),
+        Input::Failed => console::tell_reason(b"-"),
         Input::Text(n) => strip_first(&room, n, asked),
     }
 }
@@ -29,10 +27,7 @@ fn main() {
     let count = os::arg_count();
     match console::asked(count) {
         Request::Help => told::help(),
-        Request::Unknown(i) => {
-            console::tell_option(i);
-            told::usage()
-        }
+        Request::Unknown(i) => told::unknown(i),
         Request::Work(end) => strip_standard(Asked {
             end: end,
             count: count,

@@ -1,12 +1,15 @@
 // A module without the symbols that the arguments name.
 use crate::names;
 use crate::names::Flags;
-use crate::rows;
-use crate::same;
-use crate::told;
+use changes_of::Told;
+use changes_of::changes_of;
 use header::Head;
+use kept_symbols::count_down;
+use kept_symbols::keep_rows;
+use kept_symbols::other_change;
 use reading::Answer;
 use reading::Counts;
+use reading::Verdict;
 use records::PairsAnswer;
 use rooms::AREA_ROOM;
 use rooms::FIXUP_ROOM;
@@ -21,74 +24,111 @@ pub(crate) struct Asked {
     pub count: usize,
 }
 
-// Writes the text, the first n bytes, if the module's images and fixups are those of the one that was read.
-fn hand_over(
-    text: &[u8],
-    counts: Counts,
-    values: &[u8; IMAGE_ROOM],
-    masks: &[u8; IMAGE_ROOM],
-    fixups: &[u32; FIXUP_ROOM],
-    out: &[u8; TEXT_ROOM],
-    n: usize,
-) {
-    let written = sink::first_bytes(out, n);
-    if !same::same_module(text, counts, values, masks, fixups, written) {
-        told::tell(b"-", b"the module would not read the same");
-        return;
+// Whether nothing changed from a module to what is left of it but that symbols went.
+fn only_symbols_went(text: &[u8], left: &[u8]) -> bool {
+    let mut list = [0u32; 8192];
+    match changes_of(text, left, &mut list) {
+        Told::Rows { rows } => rows <= other_change(&list, rows),
+        _ => false,
     }
-    io::write_all(libc::STDOUT_FILENO, written);
 }
 
-// The module's text from what is left of its rows.
-fn write(
+// Writes what is left, if it reads the same.
+fn hand_over(text: &[u8], left: &[u8]) {
+    if only_symbols_went(text, left) {
+        io::write_all(libc::STDOUT_FILENO, left);
+        return;
+    }
+    console::tell_words(b"-", b"the module would not read the same")
+}
+
+// Writes a module without the marked symbols, its rows at hand.
+fn write_left(
     text: &[u8],
     counts: Counts,
     areas: &[u32; AREA_ROOM],
     symbols: &[u32; SYMBOL_ROOM],
-    left: usize,
     pairs: &[u32; 28672],
     content: &[u8; 32768],
     fragments: &[u32; 24576],
-    out: &mut [u8; TEXT_ROOM],
-) -> Written {
+    flags: &Flags,
+) {
     let Head::Found { form, next: _ } = header::format_spec(text) else {
-        return Written::Refusal {
-            number: 4,
-            place: 0,
-        };
+        return;
     };
-    writer::write_module(
+    let mut left = [0u32; SYMBOL_ROOM];
+    let mut out = [0u8; TEXT_ROOM];
+    let n = keep_rows(symbols, counts.symbols, flags, &mut left);
+    match writer::write_module(
         form,
         text,
         areas,
         counts.areas,
-        symbols,
-        left,
+        &left,
+        n,
         pairs,
         counts.lines,
         content,
         fragments,
-        out,
-    )
+        &mut out,
+    ) {
+        Written::Refusal { number, place } => console::tell_number(b"-", number as usize, place),
+        Written::Bytes { count } => hand_over(text, sink::first_bytes(&out, count)),
+    }
 }
 
-// Strips a module whose rows are at hand.
-fn strip_rows(
+// Takes the marked symbols out of a module whose tables are at hand, if no R line refers to one.
+fn strip_marked(
+    text: &[u8],
+    counts: Counts,
+    areas: &[u32; AREA_ROOM],
+    symbols: &[u32; SYMBOL_ROOM],
+    flags: &Flags,
+) {
+    let mut pairs = [0u32; 28672];
+    let mut content = [0u8; 32768];
+    let mut fragments = [0u32; 24576];
+    match records::read_pairs(text, &mut pairs, &mut content, &mut fragments) {
+        PairsAnswer::Refusal { number, place } => console::tell_number(
+            b"-",
+            number as usize,
+            place,
+        ),
+        PairsAnswer::Accepted { counts: n } => {
+            if names::all_free(
+                text,
+                symbols,
+                counts.symbols,
+                &fragments,
+                n.fragments,
+                flags,
+            ) {
+                count_down(&mut fragments, n.fragments, flags);
+                write_left(
+                    text,
+                    counts,
+                    areas,
+                    symbols,
+                    &pairs,
+                    &content,
+                    &fragments,
+                    flags,
+                );
+            }
+        }
+    }
+}
+
+// Strips a module whose tables are at hand.
+fn strip_read(
     text: &[u8],
     asked: Asked,
     counts: Counts,
     areas: &[u32; AREA_ROOM],
-    symbols: &mut [u32; SYMBOL_ROOM],
-    values: &[u8; IMAGE_ROOM],
-    masks: &[u8; IMAGE_ROOM],
-    fixups: &[u32; FIXUP_ROOM],
-    pairs: &[u32; 28672],
-    content: &[u8; 32768],
-    fragments: &mut [u32; 24576],
-    m: usize,
+    symbols: &[u32; SYMBOL_ROOM],
 ) {
     let mut flags: Flags = [0u8; 1024];
-    if !names::mark_all(
+    if names::mark_all(
         text,
         symbols,
         counts.symbols,
@@ -96,60 +136,7 @@ fn strip_rows(
         asked.count,
         &mut flags,
     ) {
-        return;
-    }
-    if !rows::all_free(text, symbols, counts.symbols, fragments, m, &flags) {
-        return;
-    }
-    rows::count_down(fragments, m, &flags);
-    let left = rows::drop_rows(symbols, counts.symbols, &flags);
-    let mut out = [0u8; TEXT_ROOM];
-    match write(
-        text,
-        counts,
-        areas,
-        symbols,
-        left,
-        pairs,
-        content,
-        fragments,
-        &mut out,
-    ) {
-        Written::Refusal { number, place } => told::refused(number, place),
-        Written::Bytes { count } => hand_over(text, counts, values, masks, fixups, &out, count),
-    }
-}
-
-// Strips a module whose tables, images and fixups are at hand: its T and R records are read next.
-fn strip_read(
-    text: &[u8],
-    asked: Asked,
-    counts: Counts,
-    areas: &[u32; AREA_ROOM],
-    symbols: &mut [u32; SYMBOL_ROOM],
-    values: &[u8; IMAGE_ROOM],
-    masks: &[u8; IMAGE_ROOM],
-    fixups: &[u32; FIXUP_ROOM],
-) {
-    let mut pairs = [0u32; 28672];
-    let mut content = [0u8; 32768];
-    let mut fragments = [0u32; 24576];
-    match records::read_pairs(text, &mut pairs, &mut content, &mut fragments) {
-        PairsAnswer::Refusal { number, place } => told::refused(number, place),
-        PairsAnswer::Accepted { counts: n } => strip_rows(
-            text,
-            asked,
-            counts,
-            areas,
-            symbols,
-            values,
-            masks,
-            fixups,
-            &pairs,
-            &content,
-            &mut fragments,
-            n.fragments,
-        ),
+        strip_marked(text, counts, areas, symbols, &flags);
     }
 }
 
@@ -168,20 +155,10 @@ pub(crate) fn strip_text(text: &[u8], asked: Asked) {
         &mut masks,
         &mut fixups,
     ) {
-        Answer::Refusal { number, place } => told::refused(number, place),
-        Answer::Accepted { counts, verdict } => {
-            if told::is_finished(verdict) {
-                strip_read(
-                    text,
-                    asked,
-                    counts,
-                    &areas,
-                    &mut symbols,
-                    &values,
-                    &masks,
-                    &fixups,
-                );
-            }
-        }
+        Answer::Refusal { number, place } => console::tell_number(b"-", number as usize, place),
+        Answer::Accepted { counts, verdict } => match verdict {
+            Verdict::Stopped { place } => console::tell_place(b"-", place),
+            Verdict::Finished => strip_read(text, asked, counts, &areas, &symbols),
+        },
     }
 }

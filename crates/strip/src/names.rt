@@ -1,39 +1,28 @@
-// Which symbols are named by the arguments.
-use crate::told;
+// Which symbols the arguments name, and whether they can go.
+use kept_symbols::mark;
+use kept_symbols::referring;
+use name_index::first_named;
 use rooms::TEXT_ROOM;
 use symbol_rows::symbol_name;
 
 // A flag for each symbol: 1 if it is to go.
 pub(crate) type Flags = [u8; 1024];
 
-// Marks each of n symbols that has this name, and answers whether there was one.
-fn mark_name(text: &[u8], symbols: &[u32], n: usize, name: &[u8], flags: &mut Flags) -> bool {
-    let mut found = false;
-    let mut j = 0;
-    while j < n {
-        if alike::same_name(symbol_name(text, symbols, j), name) {
-            cells::put(flags, j, 1);
-            found = true;
-        }
-        j += 1;
-    }
-    found
-}
-
 // Marks the symbols that an argument names; one that is not there is told.
 fn mark_argument(text: &[u8], symbols: &[u32], n: usize, i: usize, flags: &mut Flags) -> bool {
     let mut word = [0u8; TEXT_ROOM];
     let k = os::arg(i, &mut word);
     if os::errno() != 0 {
-        told::failed(b"the name");
+        console::tell_reason(b"the name");
         return false;
     }
     let name = sink::first_bytes(&word, k);
-    if mark_name(text, symbols, n, name, flags) {
-        return true;
+    if n <= first_named(name, text, symbols, n, &[0]) {
+        console::tell_words(name, b"no such symbol");
+        return false;
     }
-    told::tell(name, b"no such symbol");
-    false
+    mark(text, symbols, n, name, flags);
+    true
 }
 
 // Marks the symbols that the arguments name, of which the one that ends the options names none. Every one that is not there is told.
@@ -54,4 +43,25 @@ pub(crate) fn mark_all(
         i += 1;
     }
     all
+}
+
+// Whether none of the marked symbols is referred to by one of m fragments; each that is, is told by name.
+pub(crate) fn all_free(
+    text: &[u8],
+    symbols: &[u32],
+    n: usize,
+    fragments: &[u32],
+    m: usize,
+    flags: &Flags,
+) -> bool {
+    let mut free = true;
+    let mut j = 0;
+    while j < n {
+        if cells::byte_at(flags, j) == 1 && referring(fragments, m, j) < m {
+            console::tell_words(symbol_name(text, symbols, j), b"an R line refers to it");
+            free = false;
+        }
+        j += 1;
+    }
+    free
 }
