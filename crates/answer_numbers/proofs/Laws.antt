@@ -10,9 +10,9 @@ use Rattle.header.specs.declared.Width.{Width}
 use Rattle.header.specs.declared.Width.the-variants.{Four, Three, Two}
 use Rattle.header.specs.declared.Head.{Head}
 use Rattle.header.specs.declared.Head.the-variants.{Found, Missing}
-use Rattle.target_parts.specs.Parts as targets
-use Rattle.target_parts.specs.declared.asked.Answer as target
-use Rattle.target_parts.specs.declared.asked.Answer.the-variants.{At, Refused}
+use Rattle.target_asked.specs.Asked as targets
+use Rattle.target_asked.specs.declared.Answer as target
+use Rattle.target_asked.specs.declared.Answer.the-variants.{At, Refused}
 use Rattle.answer_numbers.specs.Numbers.{headerNumbers, targetNumbers}
 
 pub at-numbers : {a : target.Answer} {t : ℕ} → a ≡ At t → targetNumbers (targets.told (At t)) ≡ targetNumbers (targets.told a)

@@ -1,6 +1,6 @@
 // The answers about headers and targets as numbers.
 ghost use mathlib.Core.Path.{_≡_};
-ghost use Rattle.target_parts.specs.Parts as targets;
+ghost use Rattle.target_asked.specs.Asked as targets;
 ghost use Rattle.header.specs.Told.{toldHead, moreOf};
 ghost use Rattle.format.specs.Rows.{flag};
 ghost use Prim.Native.Nat.{suc};
@@ -25,15 +25,15 @@ pub struct TargetNumbers {
 }
 
 // The numbers of a target's answer.
-pub fn target_numbers(answer: target_parts::Answer) -> TargetNumbers
+pub fn target_numbers(answer: target_asked::Answer) -> TargetNumbers
     ensures { λ r. ⌜ r ≡ targetNumbers (targets.told answer) ⌝ }
 {
     match answer {
-        target_parts::Answer::At(t) => TargetNumbers {
+        target_asked::Answer::At(t) => TargetNumbers {
             refusal: 0,
             target: t,
         },
-        target_parts::Answer::Refused { number, place: _ } => TargetNumbers {
+        target_asked::Answer::Refused { number, place: _ } => TargetNumbers {
             refusal: number,
             target: 0,
         },

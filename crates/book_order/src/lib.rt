@@ -1,11 +1,4 @@
-// Entries given to be written, by a pool of bytes and rows of five numbers: whether they lie in the pool, whether a name stands twice, and their numbers in order of names.
-mod given;
+// The numbers of given entries in order of their names.
 mod order;
-mod twice;
 
-pub use given::first_out;
-pub use given::given_cell;
-pub use given::given_name;
 pub use order::sort_numbers;
-pub use twice::Twice;
-pub use twice::first_twice;

@@ -8,7 +8,7 @@ ghost use lib.Seq.{sets};
 ghost use Rattle.format.specs.Lists.{pick};
 ghost use Rattle.book.specs.Given.{putNumber, numbersOf};
 ghost use Rattle.book_order.specs.Told.{Spot};
-use crate::given::given_name;
+use book_given::given_name;
 use book_rows::Way;
 use book_rows::compare;
 use cells::at;

@@ -20,9 +20,9 @@ use Rattle.book.specs.Written.{bookOf, fitted}
 use Rattle.book.proofs.Given.{fitted-by-length, pooled-most}
 use Rattle.book.proofs.Numbering.{numbers-tell, numbers-long, bodies-kept}
 use Rattle.book.proofs.Writing.{book-size}
-use Rattle.book_order.specs.Told.{twiceOf}
-use Rattle.book_order.specs.declared.twice.Twice.{Twice}
-use Rattle.book_order.specs.declared.twice.Twice.the-variants as twice
+use Rattle.book_given.specs.Told.{twiceOf}
+use Rattle.book_given.specs.declared.twice.Twice.{Twice}
+use Rattle.book_given.specs.declared.twice.Twice.the-variants as twice
 use Rattle.book_plan.specs.Told.{summed, fitOf, planned, wroteOf}
 use Rattle.book_plan.specs.declared.plan.Fit.{Fit}
 use Rattle.book_plan.specs.declared.plan.Fit.the-variants.{Over, End}

@@ -4,9 +4,9 @@ ghost use Prim.Native.Nat.{_≤_, min};
 ghost use Rattle.book.specs.Given.{given, mostBytes};
 ghost use Rattle.book_plan.specs.Told.{summed, fitOf, planned, wroteOf};
 use crate::sizes::body_length;
-use book_order::Twice;
-use book_order::first_out;
-use book_order::first_twice;
+use book_given::Twice;
+use book_given::first_out;
+use book_given::first_twice;
 use book_rows::place_of;
 
 // The length of the book, or that it is more than the room.

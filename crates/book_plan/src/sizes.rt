@@ -5,7 +5,7 @@ ghost use lib.ListN.{length};
 ghost use Rattle.book.specs.Contents.{part};
 ghost use Rattle.book.specs.Entries.{body};
 ghost use Rattle.book.specs.Given.{entryAt};
-use book_order::given_cell;
+use book_given::given_cell;
 use book_rows::part_of;
 use cells::wide;
 

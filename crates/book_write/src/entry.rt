@@ -6,7 +6,7 @@ ghost use lib.Seq.{sets};
 ghost use Rattle.book.specs.Contents.{four, part, rowBytes, rowFor};
 ghost use Rattle.book.specs.Entries.{body};
 ghost use Rattle.book.specs.Given.{entryAt};
-use book_order::given_cell;
+use book_given::given_cell;
 use book_plan::length_in;
 use book_plan::name_size;
 use book_plan::values_size;

@@ -20,7 +20,8 @@ use Rattle.class_rows.specs.declared.row.Row.{Row}
 use Rattle.mode.specs.Class.{toldClass}
 use Rattle.class_rows.specs.Row.{rowOf}
 use Rattle.mode.proofs.class.JumpType.{the-type}
-use Rattle.target_parts.specs.Parts.{allowed, startBy}
+use Rattle.target_asked.specs.Asked.{allowed}
+use Rattle.target_parts.specs.Parts.{startBy}
 use Rattle.corrected.specs.Corrected.{aheadOf, leadsTo}
 
 -- the sign bit of the start

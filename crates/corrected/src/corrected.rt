@@ -1,23 +1,23 @@
 // The corrected target, which agrees with the processor, or refusal 14.
 use mode::JumpType;
-use target_parts::Answer;
-use target_parts::add64;
-use target_parts::behind;
-use target_parts::byte_at;
-use target_parts::has;
+use target_asked::Answer;
+use target_asked::is_allowed;
+use target_asked::refused;
 use target_parts::in_block;
-use target_parts::is_allowed;
 use target_parts::near;
 use target_parts::number_bit;
-use target_parts::refused;
 use target_parts::signed_start;
 use target_parts::start;
-use target_parts::sub64;
-use target_parts::wide;
+use target_words::add64;
+use target_words::behind;
+use target_words::byte_at;
+use target_words::has;
+use target_words::sub64;
+use target_words::wide;
 ghost use mathlib.Core.Path.{_≡_};
 ghost use Rattle.format.specs.Corrected as defs;
 ghost use Rattle.mode.specs.Class.{toldClass};
-ghost use Rattle.target_parts.specs.Parts.{told};
+ghost use Rattle.target_asked.specs.Asked.{told};
 ghost use Rattle.corrected.specs.Corrected.{aheadOf, leadsTo};
 
 // The sign bit of the start: Addr19's is 18, every other the ported one.

@@ -23,8 +23,8 @@ use Rattle.header.specs.declared.Head.{Head}
 use Rattle.header.specs.declared.Head.the-variants.{Found, Missing}
 use Rattle.halt.specs.Halt.{Halt, haltAt, haltOf}
 use Rattle.halt.proofs.Stop.{end-in}
-use Rattle.halt_of.specs.Told as halts
-use Rattle.halt_of.specs.declared.Halt as code
+use Rattle.line_halt.specs.Told as halts
+use Rattle.line_halt.specs.declared.Halt as code
 use Rattle.counts.specs.Counts.{compared, toldFrom, toldCounts}
 use Rattle.counts.proofs.Counts.{the-walk-gives-the-answer}
 use Rattle.counts_of.specs.Told.{groupOneEnd, toldCounted, twoOf}

@@ -1,4 +1,4 @@
--- From what the definition says to its numbers, and from a reading's contract to the exported one's.
+-- From a reading's contract to the exported one's.
 -- Assumes nothing.
 use Prim.Native.Nat.{ℕ}
 use mathlib.Core.Path.{_≡_, _∙_, ap}
@@ -6,13 +6,8 @@ use mathlib.Core.Bool.{Bool}
 use mathlib.Core.List.{List}
 use mathlib.Core.Option.{Option}
 use borrow.Author.Needs.{needs}
-use Rattle.format.specs.Outcome.{Outcome}
-use Rattle.format.specs.Header as the-header
 use Rattle.format.specs.Reading as the
 use Rattle.format.specs.Held.{Held, Meets}
-use Rattle.answer_numbers.specs.Numbers.{headerNumbers, targetNumbers}
-use Rattle.answer_numbers.specs.declared.answers.HeaderNumbers.{HeaderNumbers}
-use Rattle.answer_numbers.specs.declared.answers.TargetNumbers.{TargetNumbers}
 use Rattle.halt.specs.Halt.{Halt, haltOf}
 use Rattle.counts.specs.Counts.{Counted}
 use Rattle.ended.specs.Answer as ends
@@ -22,12 +17,6 @@ use Rattle.reading_numbers.specs.declared.beside.EndedNumbers.{EndedNumbers}
 use Rattle.reading_numbers.specs.Numbers.{readNumbers}
 use Rattle.reading_numbers.specs.declared.ReadNumbers.{ReadNumbers}
 use Rattle.exports.specs.Answers.{Answers, EndedAnswers, endedFor}
-
-pub header-told : {a o : Option the-header.Head} {r : HeaderNumbers} → r ≡ headerNumbers a → a ≡ o → r ≡ headerNumbers o
-header-told f e = f ∙ ap headerNumbers e
-
-pub target-told : {a o : Outcome ℕ} {r : TargetNumbers} → r ≡ targetNumbers a → a ≡ o → r ≡ targetNumbers o
-target-told f e = f ∙ ap targetNumbers e
 
 -- a reading that meets its contract answers with the paper's numbers and rows
 pub answers : {ended : Bool} {text : List ℕ} {old new : Held} {a : the.Answer} {r : ReadNumbers} → r ≡ readNumbers a → Meets ended text old a new → Answers ended text old r new
@@ -56,4 +45,4 @@ ended-answers {text} a f m = record {
   fixups = m .reads .fixups;
 }
 
-pub ruleset numbers = (needs, header-told, target-told, answers, ended-answers)
+pub ruleset numbers = (needs, answers, ended-answers)

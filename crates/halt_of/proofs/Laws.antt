@@ -1,5 +1,4 @@
 -- What the proofs share, by module of the code.
 -- Assumes nothing.
-pub mod GroupOne
-pub mod GroupTwo
+pub mod Pair
 pub mod Stop

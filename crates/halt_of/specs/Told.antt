@@ -1,13 +1,9 @@
--- The code's halt as the definition's one, and a line by its bytes and the length of its line end.
+-- A line by its bytes and the length of its line end, and a halt's place in the text.
 -- Assumes nothing.
 use Prim.Native.Nat.{ℕ, _+_}
 use mathlib.Core.List.{List}
 use Rattle.format.specs.Lines.{Line}
 use Rattle.halt.specs.Halt as the
-use Rattle.halt_of.specs.declared.Halt.{Halt}
-
-abbrev pub toldHalt : Halt → the.Halt
-toldHalt h = record { reason = h .reason; place = h .at }
 
 abbrev pub lineWith : List ℕ → ℕ → Line
 lineWith s e = record { bytes = s; ends = e }

@@ -5,12 +5,13 @@ ghost use lib.ListN.{length};
 ghost use Rattle.laws.specs.Places.{lineAt, nextLine};
 ghost use Rattle.header.specs.Told.{formOf};
 ghost use Rattle.halt.specs.Halt.{entryHalt, pairHalt, haltAt};
-ghost use Rattle.halt_of.specs.Told.{toldHalt, further};
-use crate::Halt;
-use crate::group_one::entry_halt;
-use crate::group_two::by_pair;
-use crate::group_two::pair_halt;
+ghost use Rattle.line_halt.specs.Told.{toldHalt};
+ghost use Rattle.halt_of.specs.Told.{further};
+use crate::pair::by_pair;
+use crate::pair::pair_halt;
 use header::Form;
+use line_halt::Halt;
+use line_halt::entry_halt;
 
 // The line at a place, as one of group one.
 fn entry_at(t: &[u8], p: usize, form: Form) -> Halt

@@ -17,7 +17,7 @@ type Order = [u32; ENTRIES];
 // A name that stands twice, or no room.
 fn unwritten(pool: &[u8], rows: &[u32], number: u8, place: u32) {
     if number == 21 {
-        console::tell_words(book_order::given_name(pool, rows, place), b"stands twice");
+        console::tell_words(book_given::given_name(pool, rows, place), b"stands twice");
     } else {
         told::full();
     }
@@ -41,6 +41,15 @@ fn put_whole(out: &mut Book, order: &mut Order, pool: &[u8], rows: &[u32], n: u3
     put(out, order, pool, rows, n)
 }
 
+// Room for a book, and for the order of its entries.
+fn empty_book() -> Book {
+    [0; BOOK]
+}
+
+fn empty_order() -> Order {
+    [0; ENTRIES]
+}
+
 // Writes the book, unless a module was not taken and none may be left out.
 pub(crate) fn write(pool: &[u8], rows: &[u32], s: Shelf, skip: bool) {
     if s.listing {
@@ -57,7 +66,7 @@ pub(crate) fn write(pool: &[u8], rows: &[u32], s: Shelf, skip: bool) {
             return;
         }
     }
-    let mut out = [0u8; BOOK];
-    let mut order = [0u32; ENTRIES];
+    let mut out = empty_book();
+    let mut order = empty_order();
     put_whole(&mut out, &mut order, pool, rows, s.entries)
 }

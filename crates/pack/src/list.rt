@@ -104,9 +104,14 @@ fn lines(pool: &mut [u8], rows: &mut [u32], s: Shelf, names: &[u8]) -> Shelf {
     now
 }
 
+// Room for all names.
+fn empty_names() -> Names {
+    [0; NAMES]
+}
+
 // The modules that standard input names.
 pub(crate) fn standard(pool: &mut [u8], rows: &mut [u32], s: Shelf) -> Shelf {
-    let mut names = [0u8; NAMES];
+    let mut names = empty_names();
     named(pool, rows, s, &mut names)
 }
 

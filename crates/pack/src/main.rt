@@ -9,7 +9,7 @@ mod told;
 mod whole;
 
 fn main() {
-    let mut pool = [0u8; shelf::POOL];
-    let mut rows = [0u32; shelf::ROWS];
+    let mut pool = shelf::empty_pool();
+    let mut rows = shelf::empty_rows();
     arguments::run(&mut pool, &mut rows)
 }

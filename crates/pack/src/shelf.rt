@@ -21,6 +21,15 @@ pub struct Shelf {
     pub listing: bool,
 }
 
+// Bytes and numbers that are all zero: made by themselves, so that no proof has so many of them in sight.
+pub(crate) fn empty_pool() -> Pool {
+    [0; POOL]
+}
+
+pub(crate) fn empty_rows() -> Rows {
+    [0; ROWS]
+}
+
 // Nothing waits yet.
 pub(crate) fn new(listing: bool) -> Shelf {
     Shelf {

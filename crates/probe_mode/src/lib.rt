@@ -1,4 +1,3 @@
-// Modes and targets for a program in Rust that holds them against the source's.
+// Modes for a program in Rust that holds them against the source's.
 mod classes;
 mod steps;
-mod targets;

@@ -7,7 +7,7 @@ use crate::hex::short;
 use mode::Jump;
 use mode::JumpType;
 use mode_step::Step;
-use target_parts::Answer;
+use target_asked::Answer;
 ghost use Prim.Native.Nat.{_≤_};
 
 // 1 if the port's answer differs, and how many bytes the line has.

@@ -38,9 +38,14 @@ fn replay(text: &[u8]) -> Sum {
     Sum { answers, differ }
 }
 
+// A room of zeros: made by itself, so that no proof has so many of them in sight.
+fn empty_room() -> [u8; 262144] {
+    [0; 262144]
+}
+
 // Reads the sample, replays it and says what came out.
 fn main() {
-    let mut text = [0u8; 262144];
+    let mut text = empty_room();
     let n = io::read_full(0, &mut text);
     let sum = replay(&text[..n]);
     io::print_decimal(1, sum.answers);

@@ -17,7 +17,9 @@ use Rattle.class_rows.specs.declared.row.Row.{Row}
 use Rattle.mode.specs.Class.{classNamed, classTable, toldClass}
 use Rattle.class_rows.specs.Row.{rowOf}
 use Rattle.mode.proofs.ClassLaws.{table-names}
-use Rattle.target_parts.specs.Parts.{allowed, shiftedLeft, shiftedRight, startBy}
+use Rattle.target_asked.specs.Asked.{allowed}
+use Rattle.target_parts.specs.Parts.{startBy}
+use Rattle.target_words.specs.Shifted.{shiftedLeft, shiftedRight}
 use Rattle.target_parts.proofs.StartLaws.{bit-is, bit-isnt}
 use Rattle.target.specs.Target.{reachedBy, relativeOf, targetBy}
 

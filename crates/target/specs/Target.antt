@@ -8,7 +8,7 @@ use Rattle.format.specs.Lists.{pick}
 use Rattle.format.specs.Mode.{Class, bit}
 use Rattle.format.specs.Outcome.{Outcome, fine, refused}
 use Rattle.format.specs.Target.{closing, high, inBlock, near, numberBit, signedNumber, signedStart, startOf, wrapAdd, wrapSub}
-use Rattle.target_parts.specs.Parts.{allowed}
+use Rattle.target_asked.specs.Asked.{allowed}
 
 -- what is left of t once the address is taken off, or what it is in its block
 unfoldable pub relativeOf : Class → (m t addr : ℕ) → ℕ

@@ -2,24 +2,24 @@
 use crate::ported::relative;
 use crate::ported::signed_number;
 use mode::JumpType;
-use target_parts::Answer;
-use target_parts::byte_at;
-use target_parts::has;
-use target_parts::is_allowed;
+use target_asked::Answer;
+use target_asked::is_allowed;
+use target_asked::refused;
 use target_parts::near;
 use target_parts::number_bit;
-use target_parts::refused;
 use target_parts::signed_start;
 use target_parts::start;
-use target_parts::sub64;
-use target_parts::wide;
+use target_words::byte_at;
+use target_words::has;
+use target_words::sub64;
+use target_words::wide;
 ghost use mathlib.Core.Path.{_≡_};
 ghost use Prim.Native.Nat.{_%_};
 ghost use lib.ListN.{getD};
 ghost use Rattle.format.specs.Target as defs;
 ghost use Rattle.mode.specs.Class.{classNamed, toldClass};
 ghost use Rattle.target.specs.Target.{reachedBy, targetBy};
-ghost use Rattle.target_parts.specs.Parts.{told};
+ghost use Rattle.target_asked.specs.Asked.{told};
 
 // The target by a class; what bytes there are not count as 0.
 fn reached(class: JumpType, mode: u32, big: bool, number: u32, address: u64, bytes: &[u8]) -> u64

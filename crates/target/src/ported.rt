@@ -1,12 +1,12 @@
 // What only the ported target does: its number's sign, and the address taken off.
 use mode::JumpType;
-use target_parts::add64;
-use target_parts::behind;
-use target_parts::has;
 use target_parts::in_block;
-use target_parts::shl64;
-use target_parts::shr64;
-use target_parts::sub64;
+use target_words::add64;
+use target_words::behind;
+use target_words::has;
+use target_words::shl64;
+use target_words::shr64;
+use target_words::sub64;
 ghost use mathlib.Core.Path.{_≡_};
 ghost use Prim.Native.Nat.{_≤_};
 ghost use Rattle.format.specs.Target as defs;

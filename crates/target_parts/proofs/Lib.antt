@@ -1,3 +1,1 @@
-pub mod AskedLaws
 pub mod StartLaws
-pub mod Unique

@@ -29,12 +29,11 @@ use Rattle.class_rows.specs.declared.row.Row.{Row}
 use Rattle.mode.specs.Class.{toldClass}
 use Rattle.class_rows.specs.Row.{rowOf}
 use Rattle.mode.proofs.class.JumpType.{the-type}
-use Rattle.target_parts.specs.Parts.{shiftedLeft, shiftedRight, startBy}
+use Rattle.target_words.specs.Shifted.{shiftedLeft, shiftedRight}
+use Rattle.target_words.proofs.Laws.{no-bit}
+use Rattle.target_parts.specs.Parts.{startBy}
 
--- a byte past the last one, and what the bytes after the first hold
-pub past-end : (bs : List ℕ) (i : ℕ) → length bs ≤ i → 0 ≡ getD bs i 0
-past-end bs i h = sym (List·getD-eq-default bs 0 h)
-
+-- what the bytes after the first hold
 pub none-after : (big : Bool) (bs : List ℕ) → length bs ≡ 0 → 0 ≡ join big (take 2 (drop 1 bs))
 unfolding join horner little
 none-after true [] e = refl
@@ -63,17 +62,6 @@ module _ {c : JumpType} (op : ℕ) (big : Bool) (bs : List ℕ) where
 
   pub start-other : c ≡ Other → 0 ≡ startBy op (toldClass c) big bs
   start-other e = rw e
-
--- a bit above all bits
-above : (x w k : ℕ) → x < 2 ^ w → w ≤ k → x / 2 ^ k ≡ 0
-above x w k h l = div-eq-of-lt (omega (arith, pow-le-pow-right {n = 2} (lit< tt) l))
-
-pub no-bit : (x w k : ℕ) → x < 2 ^ w → w ≤ k → bit k x ≡ false
-unfolding bit
-no-bit x w k h l = rw (above x w k h l)
-
-pub no-mode-bit : (m k : ℕ) → m < 2 ^ 32 → 32 ≤ k → false ≡ bit k m
-no-mode-bit m k h l = sym (no-bit m 32 k h l)
 
 -- shifts by a small count
 right-by : (x h : ℕ) → h < 64 → shiftedRight x h ≡ x / 2 ^ h
@@ -160,12 +148,6 @@ block-none Addr11 t a h = absurd (miss (0 ∷ 2 ∷ 4 ∷ 5 ∷ []) 3 tt h)
 block-none Byte t a h = refl
 block-none Other t a h = refl
 
-pub back-one : (m : ℕ) {b : Bool} → b ≡ bit 0 m → b ≡ true → _≡_ {A = ℕ} 1 (pick (bit 0 m) 1 2)
-back-one m e f = rw (← e, f)
-
-pub back-two : (m : ℕ) {b : Bool} → b ≡ bit 0 m → b ≡ false → _≡_ {A = ℕ} 2 (pick (bit 0 m) 1 2)
-back-two m e f = rw (← e, f)
-
 -- the closing bits
 closing-at-most : (c : Class) → closing c ≤ 24
 closing-at-most the.Addr19 = lit≤ tt
@@ -211,8 +193,8 @@ module _ (c : Class) {row : Row} (er : row ≡ rowOf c) where
       pub near-fits : Fits w64 (t % p + r)
       near-fits = record { fits = omega (arith, last-block c a h, above-low, power e, mod-lt t (low-some e)) }
 
-pub ruleset starting = (needs, no-mode-bit, past-end, none-after, some-after, start-addr19, start-addr11, start-addr24, start-addr16, start-byte, start-other)
+pub ruleset starting = (needs, none-after, some-after, start-addr19, start-addr11, start-addr24, start-addr16, start-byte, start-other)
 
 pub ruleset signing = (needs, start-over, start-unsigned, start-clear, start-set, tested-plain, tested-three, tested-two)
 
-pub ruleset closings = (needs, block-addr19, block-addr11, block-none, back-one, back-two, low-some, near-fits, near-is)
+pub ruleset closings = (needs, block-addr19, block-addr11, block-none, low-some, near-fits, near-is)

@@ -1,46 +1,22 @@
 // What the bytes on site and the number say, each with its sign, and what the address adds.
-use crate::word::add64;
-use crate::word::shl64;
-use crate::word::shr64;
-use crate::word::sub64;
 use mode::JumpType;
+use target_words::add64;
+use target_words::byte_at;
+use target_words::shl64;
+use target_words::shr64;
+use target_words::sub64;
+use target_words::wide;
 ghost use mathlib.Core.Path.{_≡_};
 ghost use Prim.Native.Nat.{_<_};
-ghost use lib.ListN.{drop, getD, take};
-ghost use Rattle.format.specs.Lists.{pick};
+ghost use lib.ListN.{drop, take};
 ghost use Rattle.format.specs.Number.{join};
-ghost use Rattle.format.specs.Mode.{bit};
 ghost use Rattle.format.specs.Target as defs;
 ghost use Rattle.mode.specs.Class.{toldClass};
 ghost use Rattle.target_parts.specs.Parts.{startBy};
 
-// Whether bit k of a mode is set; a mode has 32 bits.
-pub fn has(mode: u32, k: u32) -> bool
-    ensures { λ r. ⌜ r ≡ bit k mode ⌝ }
-{
-    if 32 <= k {
-        return false;
-    }
-    (mode >> k) % 2 == 1
-}
-
-// A byte on site, or 0 past the last one.
-pub fn byte_at(bytes: &[u8], i: usize) -> u8
-    ensures { λ r. ⌜ r ≡ getD (now (bytes .entry)) i 0 ⌝ }
-{
-    if i < bytes.len() { bytes[i] } else { 0 }
-}
-
 // A byte as a number of 64 bits.
 fn wide8(x: u8) -> u64
     ensures { λ r. ⌜ (r ≡ x) × (r < 256) ⌝ }
-{
-    x as u64
-}
-
-// A number of 32 bits as one of 64.
-pub fn wide(x: u32) -> u64
-    ensures { λ r. ⌜ (r ≡ x) × (r < 4294967296) ⌝ }
 {
     x as u64
 }
@@ -108,13 +84,6 @@ pub fn in_block(class: JumpType, t: u64, address: u64) -> u64
         JumpType::Addr11 => t % 0x800 + ((add64(address, 2) / 0x800 % 32) << 11),
         _ => t,
     }
-}
-
-// How far behind the address a relative target counts.
-pub fn behind(mode: u32) -> u64
-    ensures { λ r. ⌜ r ≡ pick (bit 0 mode) 1 2 ⌝ }
-{
-    if has(mode, 0) { 1 } else { 2 }
 }
 
 // The low bits of a target, so many as its class has of its own, and all others of the address.

@@ -23,9 +23,10 @@ use Rattle.scan.specs.Lines.{LineIs}
 use Rattle.scan.specs.declared.LineAt.{LineAt}
 use Rattle.halt.specs.Halt.{Halt, entryHalt, haltAt, linesHalt, pairHalt}
 use Rattle.halt.proofs.HaltSpans.{entry-halt-in, pair-halt-in}
-use Rattle.halt_of.specs.Told.{further, lineWith, toldHalt}
-use Rattle.halt_of.specs.declared.Halt as code
-use Rattle.halt_of.proofs.Laws.GroupOne.{halt}
+use Rattle.line_halt.specs.Told.{toldHalt}
+use Rattle.halt_of.specs.Told.{further, lineWith}
+use Rattle.line_halt.specs.declared.Halt as code
+use Rattle.line_halt.proofs.Laws.GroupOne.{halt}
 
 -- past the end of the text there is an empty line without a line end
 line-past : (text : List ℕ) (p : ℕ) → length text < p → lineAt text p ≡ lineWith [] 0

@@ -5,7 +5,7 @@ use Rattle.book_order.proofs.order.find_spot.Statement.{statement}
 use Rattle.book_order.proofs.order.find_spot.Tie as tie
 use Rattle.book_order.proofs.order.find_spot.Reads as reads
 use Rattle.book_order.proofs.order.find_spot.Lts as lts
-use Rattle.book_order.proofs.given.given_name.Reads as given-name-reads
+use Rattle.book_given.proofs.given_name.Reads as given-name-reads
 use Rattle.book_rows.proofs.compare.Reads as compare-reads
 use Rattle.cells.proofs.at.Reads as at-reads
 use Rattle.cells.proofs.wide.Reads as wide-reads

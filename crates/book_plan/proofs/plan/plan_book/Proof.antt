@@ -3,8 +3,8 @@ use Rattle.book_plan.proofs.plan.plan_book.Statement.{statement}
 use Rattle.book_plan.proofs.plan.plan_book.Tie as tie
 use Rattle.book_plan.proofs.plan.plan_book.Reads as reads
 use Rattle.book_plan.proofs.plan.plan_book.Lts as lts
-use Rattle.book_order.proofs.first_out.Reads as first-out-reads
-use Rattle.book_order.proofs.first_twice.Reads as first-twice-reads
+use Rattle.book_given.proofs.first_out.Reads as first-out-reads
+use Rattle.book_given.proofs.first_twice.Reads as first-twice-reads
 use Rattle.book_plan.proofs.plan.plan_length.Reads as plan-length-reads
 
 first-out-requires : tie.Need-first-out-requires

@@ -3,7 +3,7 @@ use Rattle.book_write.proofs.entry.put_body.Statement.{statement}
 use Rattle.book_write.proofs.entry.put_body.Tie as tie
 use Rattle.book_write.proofs.entry.put_body.Reads as reads
 use Rattle.book_write.proofs.entry.put_body.Lts as lts
-use Rattle.book_order.proofs.given_cell.Reads as given-cell-reads
+use Rattle.book_given.proofs.given_cell.Reads as given-cell-reads
 use Rattle.book_plan.proofs.length_in.Reads as length-in-reads
 use Rattle.book_write.proofs.entry.put_part.Reads as put-part-reads
 use Rattle.cells.proofs.wide.Reads as wide-reads

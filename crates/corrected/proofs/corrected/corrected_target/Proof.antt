@@ -3,8 +3,8 @@ use Rattle.corrected.proofs.corrected.corrected_target.Statement.{state
 use Rattle.corrected.proofs.corrected.corrected_target.Tie as tie
 use Rattle.corrected.proofs.corrected.corrected_target.Reads as reads
 use Rattle.corrected.proofs.corrected.corrected_target.Lts as lts
-use Rattle.target_parts.proofs.is_allowed.Reads as is-allowed-reads
-use Rattle.target_parts.proofs.refused.Reads as refused-reads
+use Rattle.target_asked.proofs.is_allowed.Reads as is-allowed-reads
+use Rattle.target_asked.proofs.refused.Reads as refused-reads
 use Rattle.mode.proofs.class_of.Reads as class-of-reads
 use Rattle.corrected.proofs.corrected.leads_to.Reads as leads-to-reads
 

@@ -1,6 +1,6 @@
 use Rattle.target_parts.proofs.StartLaws.{starting}
 use Rattle.joining.proofs.endian_to_number.Reads as endian-to-number-reads
-use Rattle.target_parts.proofs.site.wide.Reads as wide-reads
+use Rattle.target_words.proofs.wide.Reads as wide-reads
 use Rattle.target_parts.proofs.site.after_first.Statement.{statement}
 use Rattle.target_parts.proofs.site.after_first.Tie as tie
 use Rattle.target_parts.proofs.site.after_first.Reads as reads

@@ -3,7 +3,7 @@ use Rattle.target_parts.proofs.site.in_block.Statement.{statement}
 use Rattle.target_parts.proofs.site.in_block.Tie as tie
 use Rattle.target_parts.proofs.site.in_block.Reads as reads
 use Rattle.target_parts.proofs.site.in_block.Lts as lts
-use Rattle.target_parts.proofs.word.add64.Reads as add64-reads
+use Rattle.target_words.proofs.add64.Reads as add64-reads
 
 enum-told : tie.Need-enum-told
 enum-told c = search closings

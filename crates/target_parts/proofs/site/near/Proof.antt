@@ -4,8 +4,8 @@ use Rattle.target_parts.proofs.site.near.Tie as tie
 use Rattle.target_parts.proofs.site.near.Reads as reads
 use Rattle.target_parts.proofs.site.near.Lts as lts
 use Rattle.class_rows.proofs.row_of.Reads as row-of-reads
-use Rattle.target_parts.proofs.word.shl64.Reads as shl64-reads
-use Rattle.target_parts.proofs.word.shr64.Reads as shr64-reads
+use Rattle.target_words.proofs.shl64.Reads as shl64-reads
+use Rattle.target_words.proofs.shr64.Reads as shr64-reads
 
 row-of-requires : tie.Need-row-of-requires
 row-of-requires c κs = search closings

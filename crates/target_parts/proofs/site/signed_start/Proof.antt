@@ -1,7 +1,7 @@
 use Rattle.target_parts.proofs.StartLaws.{signing}
-use Rattle.target_parts.proofs.word.shl64.Reads as shl64-reads
-use Rattle.target_parts.proofs.word.shr64.Reads as shr64-reads
-use Rattle.target_parts.proofs.word.sub64.Reads as sub64-reads
+use Rattle.target_words.proofs.shl64.Reads as shl64-reads
+use Rattle.target_words.proofs.shr64.Reads as shr64-reads
+use Rattle.target_words.proofs.sub64.Reads as sub64-reads
 use Rattle.target_parts.proofs.site.signed_start.Statement.{statement}
 use Rattle.target_parts.proofs.site.signed_start.Tie as tie
 use Rattle.target_parts.proofs.site.signed_start.Reads as reads

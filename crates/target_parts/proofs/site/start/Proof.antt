@@ -5,8 +5,8 @@ use Rattle.target_parts.proofs.site.start.Reads as reads
 use Rattle.target_parts.proofs.site.start.Lts as lts
 use Rattle.joining.proofs.endian_to_number.Reads as endian-to-number-reads
 use Rattle.target_parts.proofs.site.after_first.Reads as after-first-reads
-use Rattle.target_parts.proofs.site.byte_at.Reads as byte-at-reads
-use Rattle.target_parts.proofs.site.wide.Reads as wide-reads
+use Rattle.target_words.proofs.byte_at.Reads as byte-at-reads
+use Rattle.target_words.proofs.wide.Reads as wide-reads
 use Rattle.target_parts.proofs.site.wide8.Reads as wide8-reads
 
 enum-told : tie.Need-enum-told
