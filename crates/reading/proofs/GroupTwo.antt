@@ -2,15 +2,15 @@
 -- Assumes nothing.
 use Prim.Native.Nat.{ℕ, suc, _+_, _-_, _<_, _≤_}
 use mathlib.Core.Path.{_≡_, refl, ap, sym, subst, _∙_}
-use mathlib.Core.Bool.{Bool, true, false}
+use mathlib.Core.Bool.{Bool, true, false, _&&_}
 use mathlib.Core.List.{List, [], _∷_, _++_, map, append-assoc}
 use mathlib.Core.Option.{some}
 use native.Mathlib.Omega.{arith}
 use lib.ListN.{length, getD, take, drop, length-append, length-map, replicate, length-replicate}
 use lib.Seq.{sets, length-sets, take-append-seam, getD-at}
-use lib.Dec.{ltb}
+use lib.Dec.{eqb, ltb}
 use borrow.Author.Needs.{needs}
-use borrow.Author.Tests.{lt-ltb, le-ltb, le-leb, lt-leb, ltb-true, ltb-false}
+use borrow.Author.Tests.{eq-eqb, ne-eqb, lt-ltb, le-ltb, le-leb, lt-leb, ltb-true, ltb-false}
 use Rattle.format.specs.Lists.{pick}
 use Rattle.format.specs.Header.{Form}
 use Rattle.format.specs.Pairs as the
@@ -42,6 +42,7 @@ use Rattle.planning.specs.Plan.{endingWith, endingOf, afterOf, steppedOf, stand
 use Rattle.planning.proofs.Plans.{more-counted}
 use Rattle.reading.specs.Onward.{endsOf, Ended, stands, onward, onwardAt, toldTwo, FewIn, GroupedTwo, standingOf, filledOf, keptIn, Sound, Ready, Columns, PlaceReady, Advances, Carried, listed, CarriedBy, GoesOn, TurnSays, TurnIs}
 use Rattle.reading.proofs.Carrying.{ready-same, turn-same, carried-none, carried-then, carried-leave, carried-refused, carries, after-listed}
+use Rattle.reading.proofs.Idle.{idle-pair, empty-both}
 use Rattle.steps.specs.declared.pair.Body.{Body}
 use Rattle.steps.specs.declared.pair.Body.the-variants.{Skipped, Placed}
 use Rattle.steps.specs.declared.pair.PairStep.{PairStep}
@@ -116,6 +117,13 @@ told-stands (Through k x) vs ms rows o e = cc
 told-stands (Stopped n p) vs ms rows o e = cc
 told-stands Misfit vs ms rows o e = absurd (let z : _≡_ {A = ℕ} 0 1 = cc in omega arith)
 
+-- `is_empty`
+pub empty-if : (a b : ℕ) → a ≡ 0 → eqb b 0 ≡ (eqb a 0 && eqb b 0)
+empty-if a b e = rw (eq-eqb a 0 e)
+
+pub empty-no : (a b : ℕ) → (a ≡ 0 → ⊥) → false ≡ (eqb a 0 && eqb b 0)
+empty-no a b e = rw (ne-eqb a 0 e)
+
 module _ {l : Line} {g : Progress} {bytes areas rows : List ℕ} (w : PlaceReady l g bytes areas rows) (ms es xs symbols vs fs : List ℕ) where
   pub body-kept : {n p : ℕ} → g .standing ≡ Kept n p → {g′ : Progress} {u : Turn} → g′ ≡ standingIn g (g .home) (g .standing) → u ≡ afterOf g′
       → (Advances l g bytes ms es xs areas symbols vs fs rows u vs fs rows) × (CarriedBy (g .areas) areas fs u areas fs)
@@ -123,6 +131,18 @@ module _ {l : Line} {g : Progress} {bytes areas rows : List ℕ} (w : PlaceReady
     record { standing = g .standing; home = g .home; answered = j ∙ ap afterOf i; says = λ radix end. rw e; sound = w .sound; homed = w .homed },
     carried-refused areas fs g (g .home) (g .standing) i j,
   )
+
+  pub body-empty : {q : Bool} → q ≡ (eqb (l .bytes) 0 && eqb (l .fragments) 0) → q ≡ true → {g′ : Progress} {u : Turn} → g′ ≡ standingIn g (g .home) (g .standing) → u ≡ afterOf g′
+      → (Advances l g bytes ms es xs areas symbols vs fs rows u vs fs rows) × (CarriedBy (g .areas) areas fs u areas fs)
+  body-empty e h i j =
+      let zero = empty-both (l .bytes) (l .fragments) e h in (
+        record { standing = g .standing; home = g .home; answered = j ∙ ap afterOf i; says = λ radix end. go radix end (zero .0) (zero .1) (g .standing); sound = w .sound; homed = w .homed },
+        carried-refused areas fs g (g .home) (g .standing) i j,
+      )
+    where
+      go : (radix end : ℕ) → l .bytes ≡ 0 → l .fragments ≡ 0 → (st : Standing) → stands st vs fs rows ≡ andThen (stands st vs fs rows) (λ s. pairOf l bytes ms es xs areas symbols (filledOf g 0 0) s radix end)
+      go radix end b f (Made k) = sym (idle-pair l bytes ms es xs areas symbols (filledOf g 0 0) b f (stateOf vs fs rows k) radix end)
+      go radix end b f (Kept n p) = refl
 
   pub body-made : {k : ℕ} → g .standing ≡ Made k → {x : ℕ} → x ≡ knownAt areas (l .area) → {q : Filled} → q ≡ filledOf g k x → {h : Home} → h ≡ homeAt areas (g .areas) (l .area) → {r : place.Placed} {vs′ fs′ rows′ : List ℕ}
       → PairPlaced (fitsIn l h bytes q rows) (pairIn l h bytes ms es xs areas symbols q (stateOf vs fs rows (q .fixups))) (q .known) vs fs rows r vs′ fs′ rows′ → ((j : ℕ) → getD fs′ j 0 < 256)
@@ -173,7 +193,7 @@ home-last areas g e j = e ∙ ap (homeAt areas (g .areas)) j
 pub ready-homed : {l : Line} {g : Progress} {bytes areas rows : List ℕ} → PlaceReady l g bytes areas rows → g .home ≡ homeAt areas (g .areas) (g .home .area)
 ready-homed w = w .homed
 
-pub ruleset bodies = (needs, body-kept, body-made, home-last, ready-homed)
+pub ruleset bodies = (needs, empty-no, empty-if, body-empty, body-kept, body-made, home-last, ready-homed)
 
 -- ------------------------------------------------------------------ the pairs from here on
 

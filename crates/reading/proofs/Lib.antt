@@ -1,3 +1,4 @@
+pub mod Idle
 pub mod Carrying
 pub mod GroupTwo
 pub mod Laid

@@ -1,6 +1,8 @@
 // One turn of group two: the pair at a place read, counted and placed; refusals 10 to 13.
 ghost use mathlib.Core.Path.{_≡_};
+ghost use mathlib.Core.Bool.{_&&_};
 ghost use Prim.Native.Nat.{_≤_};
+ghost use lib.Dec.{eqb};
 ghost use lib.ListN.{length};
 ghost use Rattle.homes.specs.Home.{homeAt};
 ghost use Rattle.header.specs.Told.{formOf};
@@ -74,7 +76,17 @@ fn home_for(areas: &[u32], going: Progress, area: usize) -> Home
     homes::home_at(areas, going.areas, area)
 }
 
-// A pair placed, if no refusal is kept.
+// Whether a pair has neither content nor fragments.
+fn is_empty(line: Line) -> bool
+    ensures { λ r. ⌜ r ≡ (eqb (line .bytes) 0 && eqb (line .fragments) 0) ⌝ }
+{
+    if line.bytes == 0 {
+        return line.fragments == 0;
+    }
+    false
+}
+
+// A pair placed, if no refusal is kept. An empty one changes nothing, so its area is not looked for.
 fn place_body(
     line: Line,
     going: Progress,
@@ -92,6 +104,9 @@ fn place_body(
     ensures { λ r. ⌜ (Advances line going (now (bytes .entry)) (now (ms .entry)) (now (es .entry)) (now (xs .entry)) (now (areas .entry)) (now (symbols .entry)) (now (values .entry)) (now (masks .entry)) (now (rows .entry)) r (now (values .exit)) (now (masks .exit)) (now (rows .exit))) × (CarriedBy (going .areas) (now (areas .entry)) (now (masks .entry)) r (now (areas .exit)) (now (masks .exit))) ⌝ }
 {
     let s = going.standing;
+    if is_empty(line) {
+        return after(standing_in(going, going.home, s));
+    }
     let Standing::Made { fixups } = s else {
         return after(standing_in(going, going.home, s));
     };

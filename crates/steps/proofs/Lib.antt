@@ -1,3 +1,4 @@
+pub mod EmptySteps
 pub mod Entries
 pub mod PairLines
 pub mod PairSteps

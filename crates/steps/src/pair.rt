@@ -13,6 +13,8 @@ ghost use Rattle.steps.specs.declared.pair.PairLine.the-variants.{Pair};
 use crate::lines::line_at;
 use crate::lines::record_end;
 use crate::lines::whole;
+use empty_pair::Empty;
+use empty_pair::empty_pair;
 use header::Form;
 use pair_line::ContentLine;
 use pair_line::RelocationLine;
@@ -150,8 +152,8 @@ fn step_from(line: PairLine, p: usize, k: LineAt, ended: bool) -> PairStep
     }
 }
 
-// What the two lines at a place do to group two.
-pub fn pair_step(
+// What two lines of any form at a place do to group two.
+fn any_pair(
     t: &[u8],
     p: usize,
     form: Form,
@@ -177,4 +179,34 @@ pub fn pair_step(
     let s = k.end;
     let line = read_pair(&t[p..q], &t[r..s], r - p, form, bytes, ms, es, xs);
     step_from(line, p, k, ended)
+}
+
+// What the two lines at a place do to group two. An empty pair in the usual form is known at once.
+pub fn pair_step(
+    t: &[u8],
+    p: usize,
+    form: Form,
+    ended: bool,
+    bytes: &mut [u8; 256],
+    ms: &mut [u32; 64],
+    es: &mut [u32; 64],
+    xs: &mut [u32; 64],
+) -> PairStep
+    ensures { λ r. ⌜ PairStepIs ended (formOf form) (now (t .entry)) p r (now (bytes .entry)) (now (ms .entry)) (now (es .entry)) (now (xs .entry)) (now (bytes .exit)) (now (ms .exit)) (now (es .exit)) (now (xs .exit)) ⌝ }
+    ensures { λ r. ⌜ LeftAt (formOf form) (now (t .entry)) p (now (bytes .entry)) (now (ms .entry)) (now (es .entry)) (now (xs .entry)) (now (bytes .exit)) (now (ms .exit)) (now (es .exit)) (now (xs .exit)) ⌝ }
+{
+    match empty_pair(t, p, form) {
+        Empty::Is { address, area } => PairStep::Takes {
+            body: Body::Placed {
+                address: address,
+                count: 0,
+                area: area,
+                fragments: 0,
+            },
+            end: record_end(ended, p + 25, p + 24),
+            next: p + 25,
+            on: true,
+        },
+        Empty::Other => any_pair(t, p, form, ended, bytes, ms, es, xs),
+    }
 }
