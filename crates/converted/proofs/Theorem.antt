@@ -1,7 +1,7 @@
 -- A module that is converted gives what the old one gave; and what is not written was refused, stopped or too long.
 -- Assumes nothing.
-use Prim.Native.Nat.{ℕ, _≤_, _<_}
-use mathlib.Core.Path.{_≡_, ap, refl, subst, sym, _∙_}
+use Prim.Native.Nat.{ℕ, _≤_}
+use mathlib.Core.Path.{_≡_, refl, subst}
 use mathlib.Core.Bool.{Bool, false, true}
 use mathlib.Core.List.{List}
 use native.Mathlib.Omega.{arith}
@@ -17,7 +17,7 @@ use Rattle.laws.proofs.Outcomes.{chain, follow}
 use Rattle.record_rows.specs.ReadPairs.{roomy}
 use Rattle.written.specs.Alike.{ReadAgain, rewritten}
 use Rattle.written.proofs.ReadAgain.{what-is-rewritten-of-any-radix}
-use Rattle.converted.specs.Convert.{Converted, byVerdict, convert, convertOf, readAny, refusal, rewrite, stoppedAt, writtenAs}
+use Rattle.converted.specs.Convert.{byVerdict, convert, convertOf, readAny, refusal, rewrite, writtenAs}
 use Rattle.converted.specs.Gives.{GivesTheSame}
 
 -- what is read and no longer than a text may be is accepted when it is written as X

@@ -5,14 +5,13 @@ use mathlib.Core.Path.{_≡_, ap, refl, sym, _∙_}
 use mathlib.Core.Bool.{Bool, false, true}
 use mathlib.Core.List.{List, [], append-assoc, append-nil, _++_, _∷_}
 use native.Mathlib.Omega.{arith}
-use native.Mathlib.Nat.{add-zero, zero-add}
 use lib.ListN.{drop, length, length-append, take}
 use lib.Dec.{leb, ltb}
-use borrow.Author.Tests.{leb-true, leb-false}
+use borrow.Author.Tests.{leb-false}
 use Rattle.format.specs.Lists.{pick}
 use Rattle.format.specs.Number.{Name}
 use Rattle.format.specs.Entries.{Entry, area, ignored, symbol}
-use Rattle.format.specs.Outcome.{Outcome, andThen, fine, fold, refused}
+use Rattle.format.specs.Outcome.{andThen, fine, fold}
 use Rattle.format.specs.Records.{Taken}
 use Rattle.format.specs.Tables.{Area, Symbol, Tables, addArea, addBody, addEntry, addSymbol, areaRow, lastIndex, named}
 use Rattle.laws.specs.Rows.{areaAt, from, symbolAt}

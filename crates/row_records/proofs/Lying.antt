@@ -1,7 +1,7 @@
 -- The names of a text's records lie in the text.
 -- Assumes nothing.
-use Prim.Native.Nat.{suc, zero, ℕ, _+_, _-_, _≤_}
-use mathlib.Core.Path.{_≡_, ap, refl, sym, _∙_}
+use Prim.Native.Nat.{suc, ℕ, _+_, _-_}
+use mathlib.Core.Path.{_≡_, ap, refl, _∙_}
 use mathlib.Core.Bool.{Bool, false, true, _&&_}
 use mathlib.Core.List.{List, [], _∷_}
 use native.Mathlib.Omega.{arith}

@@ -1,7 +1,7 @@
 -- The rows of T and R records, as the writer takes them, stand for those records.
 -- Assumes nothing.
-use Prim.Native.Nat.{suc, zero, ℕ, _*_, _+_, _-_, _<_, _≤_}
-use mathlib.Core.Path.{_≡_, ap, refl, sym, _∙_}
+use Prim.Native.Nat.{suc, ℕ, _*_, _+_, _-_, _<_, _≤_}
+use mathlib.Core.Path.{_≡_, ap, refl, _∙_}
 use mathlib.Core.Bool.{Bool, false, true}
 use mathlib.Core.List.{List, [], append-assoc, _++_, _∷_}
 use native.Mathlib.Nat.{add-zero, zero-add}

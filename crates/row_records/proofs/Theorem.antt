@@ -1,21 +1,20 @@
 -- The rows that a reading leaves stand for the records of the text, so what is written from them is what is written from the records.
 -- Assumes nothing.
-use Prim.Native.Nat.{suc, zero, ℕ, _*_, _+_, _<_, _≤_}
+use Prim.Native.Nat.{ℕ, _*_, _+_, _<_, _≤_}
 use mathlib.Core.Path.{_≡_, ap, refl, subst, sym, _∙_}
 use mathlib.Core.Bool.{Bool, false, true}
-use mathlib.Core.List.{List, [], _++_, _∷_}
+use mathlib.Core.List.{List, [], _++_}
 use mathlib.Core.Option.{Option, none, some}
 use mathlib.Core.Logic.{_↔_}
 use native.Mathlib.Nat.{zero-add}
 use native.Mathlib.Omega.{arith}
 use lib.ListN.{getD, length, length-append}
 use lib.Dec.{eqb}
-use Rattle.format.specs.Lists.{flat}
 use Rattle.format.specs.Entries.{Entry}
 use Rattle.format.specs.Outcome.{fine}
-use Rattle.format.specs.Records.{Parsed, Taken, parsed}
+use Rattle.format.specs.Records.{Taken, parsed}
 use Rattle.format.specs.Tables.{Area, Symbol, Tables, lastIndex, tables}
-use Rattle.format.specs.Rows.{areaTable, flag, plusOneOrZero, symbolNumbers}
+use Rattle.format.specs.Rows.{flag, plusOneOrZero, symbolNumbers}
 use Rattle.format.specs.Reading.{Read, allowed, build, read}
 use Rattle.laws.specs.Rows.{areaAt, from, symbolAt}
 use Rattle.laws.proofs.Decoded.{column, decoded, first-column}
@@ -25,7 +24,7 @@ use Rattle.record_rows.specs.ReadPairs.{roomy}
 use Rattle.record_rows.proofs.Roomy.{pair-rows-length}
 use Rattle.record_parts.proofs.Decoded.{Standing}
 use Rattle.written.specs.Alike.{rewritten}
-use Rattle.written.specs.Named.{Named, NamedEntry, NamedPair, collected, namedOf, takenEntry, takenPair}
+use Rattle.written.specs.Named.{Named, collected, namedOf, takenEntry, takenPair}
 use Rattle.written.specs.Writing.{Good, written}
 use Rattle.written.proofs.Read.{what-is-read-can-be-written}
 use Rattle.written.proofs.ReadAgain.{what-is-rewritten-of-any-radix}
