@@ -12,7 +12,7 @@ pub(crate) struct Row {
     pub(crate) fifth: u32,
 }
 
-// Row i, which is all 0 past the end.
+// Row i, for i below 2^29; past the end of the list it is all 0.
 pub(crate) fn row_at(list: &[u32], i: usize) -> Row {
     let n = 8 * (i % 536870912);
     Row {
