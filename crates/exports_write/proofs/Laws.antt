@@ -1,30 +1,30 @@
 -- The laws of the exported records and of the exported writer.
 -- Assumes nothing.
-use Prim.Native.Nat.{suc, ℕ}
+use Prim.Native.Nat.{ℕ, _≤_}
 use mathlib.Core.Path.{_≡_, ap, refl, subst, sym, _∙_}
 use mathlib.Core.Bool.{Bool, false, true, _&&_}
 use mathlib.Core.List.{List}
 use mathlib.Core.Option.{Option, none, some}
 use native.Mathlib.Omega.{arith}
-use lib.Dec.{leb, ltb}
+use lib.Dec.{eqb, leb}
 use borrow.Author.Needs.{needs}
-use borrow.Author.Tests.{le-leb, leb-false, leb-true, lt-leb}
+use borrow.Author.Tests.{eqb-false, eqb-true, leb-true}
 use Rattle.format.specs.Lists.{pick}
 use Rattle.format.specs.Header as the
-use Rattle.header.specs.Told.{formOf, moreOf}
+use Rattle.header.specs.Told.{formOf}
 use Rattle.header.specs.declared.Form.{Form}
-use Rattle.header.specs.declared.Width.{Width}
 use Rattle.header.specs.declared.Width.the-variants.{Four, Three, Two}
+use Rattle.record_rows.specs.ReadPairs as paper
 use Rattle.record_rows.specs.ReadPairs.{HeldPairs, PairsMeet}
 use Rattle.records.specs.Told.{told as pairsTold}
 use Rattle.records.specs.declared.PairCounts.{PairCounts}
 use Rattle.records.specs.declared.PairsAnswer.{PairsAnswer}
 use Rattle.records.specs.declared.PairsAnswer.the-variants as read
 use Rattle.row_texts.specs.RowRecords.{Rows}
-use Rattle.writer.specs.Writes.{Writes, told}
+use Rattle.writer.specs.Writes.{Answer, Writes, refusal, told}
 use Rattle.writer.specs.declared.Written.{Written}
 use Rattle.writer.specs.declared.Written.the-variants as wrote
-use Rattle.exports_write.specs.Numbers.{Reads, WritesIf, WritesOut, formFor, formed, isWidth, pairsNumbers, writtenNumbers}
+use Rattle.exports_write.specs.Numbers.{FormIs, Reads, WritesOut, formFor, formed, isWidth, pairsNumbers, writtenNumbers, xForm}
 use Rattle.exports_write.specs.declared.Formed.{Formed}
 use Rattle.exports_write.specs.declared.Formed.the-variants.{Is, No}
 use Rattle.exports_write.specs.declared.PairsNumbers.{PairsNumbers}
@@ -48,63 +48,67 @@ module _ {a : Written} {r : WrittenNumbers} where
 pub ruleset numbers = (needs, pairs-refused, pairs-counted, written-refused, written-bytes)
 
 -- `gatecobalt_read_pairs`
-pub reads-so : (text : List ℕ) {old new : HeldPairs} {a : PairsAnswer} {r : PairsNumbers} → PairsMeet text old (pairsTold a) new → r ≡ pairsNumbers (pairsTold a) → Reads text old r new
-reads-so text {old} {new} {a} w e = record { answer = pairsTold a; meets = w; says = e }
+pub reads-so : (text : List ℕ) {old new : HeldPairs} {t : paper.PairsAnswer} {r : PairsNumbers} → PairsMeet text old t new → r ≡ pairsNumbers t → Reads text old r new
+reads-so text {old} {new} {t} w e = record { answer = t; meets = w; says = e }
 
 pub ruleset reads = (needs, reads-so)
 
--- `formed_as`, `form_for`
+-- `form_for`
 between : (n : ℕ) → 2 ≤ n → n ≤ 4 → (n ≡ 2 → ⊥) → (n ≡ 3 → ⊥) → (n ≡ 4 → ⊥) → ⊥
-between n l u h i j = omega arith
+between n l u h i j = go (eqb n 2) (eqb n 3) refl refl
+  where
+    go : (t u : Bool) → eqb n 2 ≡ t → eqb n 3 ≡ u → ⊥
+    go true u e f = h (eqb-true n 2 e)
+    go false true e f = i (eqb-true n 3 f)
+    go false false e f = j (omega (arith, eqb-false n 2 e, eqb-false n 3 f))
 
-module _ (b : Bool) where
-  pub form-as : {f : Form} {w : Width} {r : Formed} → r ≡ Is f → f ≡ record { radix = 16; big = b; width = w } → formed r ≡ some (formFor b (suc (moreOf w)))
-  form-as e f = rw (e, f)
+other : (n : ℕ) → (n ≡ 2 → ⊥) → (n ≡ 3 → ⊥) → (n ≡ 4 → ⊥) → isWidth n ≡ false
+unfolding isWidth
+other n h i j = go (leb 2 n) (leb n 4) refl refl
+  where
+    go : (t u : Bool) → leb 2 n ≡ t → leb n 4 ≡ u → leb 2 n && leb n 4 ≡ false
+    go true true e f = absurd (between n (leb-true 2 n e) (leb-true n 4 f) h i j)
+    go true false e f = rw (e, f)
+    go false u e f = rw e
 
-  module _ (n : ℕ) {r : Formed} where
-    pub form-2 : n ≡ 2 → formed r ≡ some (formFor b (suc (moreOf Two))) → formed r ≡ pick (isWidth n) (some (formFor b n)) none
-    unfolding isWidth
-    form-2 e f = rw e f
+module _ (b : Bool) {n : ℕ} {r : Formed} where
+  pub form-2 : n ≡ 2 → r ≡ Is (xForm b Two) → FormIs b n r
+  unfolding isWidth
+  form-2 e f = record { is = rw (e, f) }
 
-    pub form-3 : n ≡ 3 → formed r ≡ some (formFor b (suc (moreOf Three))) → formed r ≡ pick (isWidth n) (some (formFor b n)) none
-    unfolding isWidth
-    form-3 e f = rw e f
+  pub form-3 : n ≡ 3 → r ≡ Is (xForm b Three) → FormIs b n r
+  unfolding isWidth
+  form-3 e f = record { is = rw (e, f) }
 
-    pub form-4 : n ≡ 4 → formed r ≡ some (formFor b (suc (moreOf Four))) → formed r ≡ pick (isWidth n) (some (formFor b n)) none
-    unfolding isWidth
-    form-4 e f = rw e f
+  pub form-4 : n ≡ 4 → r ≡ Is (xForm b Four) → FormIs b n r
+  unfolding isWidth
+  form-4 e f = record { is = rw (e, f) }
 
-    other : (n ≡ 2 → ⊥) → (n ≡ 3 → ⊥) → (n ≡ 4 → ⊥) → isWidth n ≡ false
-    unfolding isWidth
-    other h i j = go (leb 2 n) (leb n 4) refl refl
-      where
-        go : (t u : Bool) → leb 2 n ≡ t → leb n 4 ≡ u → leb 2 n && leb n 4 ≡ false
-        go true true e f = absurd (between n (leb-true 2 n e) (leb-true n 4 f) h i j)
-        go true false e f = rw (e, f)
-        go false u e f = rw e
+pub form-no : (b : Bool) {n : ℕ} → (n ≡ 2 → ⊥) → (n ≡ 3 → ⊥) → (n ≡ 4 → ⊥) → FormIs b n No
+form-no b {n} h i j = record { is = sym (ap (λ (t : Bool). pick t (some (formFor b n)) none) (other n h i j)) }
 
-    pub form-no : (n ≡ 2 → ⊥) → (n ≡ 3 → ⊥) → (n ≡ 4 → ⊥) → r ≡ No → formed r ≡ pick (isWidth n) (some (formFor b n)) none
-    form-no h i j e = ap formed e ∙ sym (ap (λ (t : Bool). pick t (some (formFor b n)) none) (other h i j))
-
-pub ruleset forming = (needs, form-as, form-2, form-3, form-4, form-no)
+pub ruleset forming = (needs, form-2, form-3, form-4, form-no)
 
 -- `gatecobalt_write`
-module _ (b : Bool) (n : ℕ) (rows : Rows) (out : List ℕ) {d : Formed} (e : formed d ≡ pick (isWidth n) (some (formFor b n)) none) where
-  pub no-width : d ≡ No → {r : WrittenNumbers} → r ≡ record { refusal = 15; bytes = 0 } → WritesOut b n rows out r out
-  no-width g {r} k = go (isWidth n) refl
+module _ {b : Bool} {n : ℕ} {d : Formed} (e : FormIs b n d) where
+  made : (t : Bool) → isWidth n ≡ t → formed d ≡ pick t (some (formFor b n)) none
+  made t i = e .is ∙ ap (λ (t : Bool). pick t (some (formFor b n)) none) i
+
+  pub no-width : (rows : Rows) (out : List ℕ) → d ≡ No → {r : WrittenNumbers} → r ≡ record { refusal = 15; bytes = 0 } → WritesOut b n rows out r out
+  no-width rows out g {r} k = go (isWidth n) refl
     where
       go : (t : Bool) → isWidth n ≡ t → WritesOut b n rows out r out
-      go true i = let z : none ≡ some (formFor b n) = ap formed (sym g) ∙ (e ∙ ap (λ (t : Bool). pick t (some (formFor b n)) none) i) in let y : _≡_ {A = ℕ} 0 1 = cc in absurd (omega arith)
-      go false i = record { answer = _; writes = rw i (refl, refl); says = k }
+      go true i = let z : none ≡ some (formFor b n) = ap formed (sym g) ∙ made true i in let y : _≡_ {A = ℕ} 0 1 = cc in absurd (omega arith)
+      go false i = record { answer = refusal 15 0; writes = rw i (refl, refl); says = k }
 
-  pub writes-so : {f : Form} → d ≡ Is f → {a : Written} {out′ : List ℕ} {r : WrittenNumbers} → Writes (formOf f) rows out (told a) out′ → r ≡ writtenNumbers (told a) → WritesOut b n rows out r out′
-  writes-so {f} g {a} {out′} {r} w k = go (isWidth n) refl
+  pub writes-so : {f : Form} → d ≡ Is f → {rows : Rows} {out out′ : List ℕ} {t : Answer} {r : WrittenNumbers} → Writes (formOf f) rows out t out′ → r ≡ writtenNumbers t → WritesOut b n rows out r out′
+  writes-so {f} g {rows} {out} {out′} {t} {r} w k = go (isWidth n) refl
     where
-      go : (t : Bool) → isWidth n ≡ t → WritesOut b n rows out r out′
+      go : (u : Bool) → isWidth n ≡ u → WritesOut b n rows out r out′
       go true i =
-          let z : some (formOf f) ≡ some (formFor b n) = ap formed (sym g) ∙ (e ∙ ap (λ (t : Bool). pick t (some (formFor b n)) none) i) in
+          let z : some (formOf f) ≡ some (formFor b n) = ap formed (sym g) ∙ made true i in
           let y : formOf f ≡ formFor b n = cc in
-          record { answer = told a; writes = rw i (subst (λ (x : the.Form). Writes x rows out (told a) out′) y w); says = k }
-      go false i = let z : some (formOf f) ≡ none = ap formed (sym g) ∙ (e ∙ ap (λ (t : Bool). pick t (some (formFor b n)) none) i) in let y : _≡_ {A = ℕ} 0 1 = cc in absurd (omega arith)
+          record { answer = t; writes = rw i (subst (λ (x : the.Form). Writes x rows out t out′) y w); says = k }
+      go false i = let z : some (formOf f) ≡ none = ap formed (sym g) ∙ made false i in let y : _≡_ {A = ℕ} 0 1 = cc in absurd (omega arith)
 
 pub ruleset writes = (needs, no-width, writes-so)

@@ -7,7 +7,10 @@ use mathlib.Core.List.{List}
 use mathlib.Core.Option.{Option, none, some}
 use lib.Dec.{leb}
 use Rattle.format.specs.Header.{Form}
+use Rattle.format.specs.Lists.{pick}
 use Rattle.header.specs.Told.{formOf}
+use Rattle.header.specs.declared.Form as code
+use Rattle.header.specs.declared.Width.{Width}
 use Rattle.record_rows.specs.ReadPairs.{HeldPairs, PairsAnswer, PairsMeet, accepted, refusal}
 use Rattle.row_texts.specs.RowRecords.{Rows}
 use Rattle.writer.specs.Writes as writing
@@ -39,10 +42,18 @@ isWidth w = leb 2 w && leb w 4
 abbrev pub formFor : (big : Bool) (width : ℕ) → Form
 formFor b w = record { radix = 16; big = b; addressLength = w }
 
+-- the code's form of this order and width
+abbrev pub xForm : Bool → Width → code.Form
+xForm b w = record { radix = 16; big = b; width = w }
+
 -- the form that the code made, if it made one
 abbrev pub formed : Formed → Option Form
 formed (Is f) = some (formOf f)
 formed No = none
+
+-- it makes one exactly of the three widths
+pub record FormIs (big : Bool) (width : ℕ) (r : Formed) : Type 0 where
+  pub is : formed r ≡ pick (isWidth width) (some (formFor big width)) none
 
 -- 15 for any other width, and the buffer as it was
 abbrev pub WritesIf : Bool → Form → Rows → List ℕ → Answer → List ℕ → Type 0

@@ -1,14 +1,11 @@
 // What C and Rust link to read the T and R records of a text and to write a module's text from rows, over numbers and
 // slices. Both functions answer for every input and ask nothing of their caller.
 ghost use mathlib.Core.Path.{_≡_};
-ghost use mathlib.Core.Option.{none, some};
-ghost use Prim.Native.Nat.{suc};
-ghost use Rattle.header.specs.Told.{moreOf};
-ghost use Rattle.format.specs.Lists.{pick};
 ghost use Rattle.records.specs.Told.{held, told as pairsTold};
 ghost use Rattle.row_texts.specs.RowRecords.{lent};
 ghost use Rattle.writer.specs.Writes.{told};
-ghost use Rattle.exports_write.specs.Numbers.{Reads, WritesOut, formFor, formed, isWidth, pairsNumbers, writtenNumbers};
+ghost use Rattle.exports_write.specs.Numbers.{FormIs, Reads, WritesOut, pairsNumbers, writtenNumbers, xForm};
+ghost use Rattle.exports_write.specs.declared.Formed.the-variants.{Is};
 use header::Form;
 use header::Width;
 use records::PairsAnswer;
@@ -91,7 +88,7 @@ enum Formed {
 
 // An X form.
 fn formed_as(big: bool, width: Width) -> Formed
-    ensures { λ r. ⌜ formed r ≡ some (formFor big (suc (moreOf width))) ⌝ }
+    ensures { λ r. ⌜ r ≡ Is (xForm big width) ⌝ }
 {
     Formed::Is {
         form: Form {
@@ -104,7 +101,7 @@ fn formed_as(big: bool, width: Width) -> Formed
 
 // An X form with this order and so many bytes in an address, if they are 2, 3 or 4.
 fn form_for(big: bool, width: u32) -> Formed
-    ensures { λ r. ⌜ formed r ≡ pick (isWidth width) (some (formFor big width)) none ⌝ }
+    ensures { λ r. ⌜ FormIs big width r ⌝ }
 {
     match width {
         2 => formed_as(big, Width::Two),
@@ -121,16 +118,16 @@ pub extern "C" fn gatecobalt_write(
     width: u32,
     text: &[u8],
     areas: &[u32],
-    area_count: usize,
+    na: usize,
     symbols: &[u32],
-    symbol_count: usize,
+    ns: usize,
     pairs: &[u32],
-    pair_count: usize,
+    np: usize,
     content: &[u8],
     fragments: &[u32],
     out: &mut [u8],
 ) -> WrittenNumbers
-    ensures { λ r. ⌜ WritesOut big width (lent (now (text .entry)) (now (areas .entry)) area_count (now (symbols .entry)) symbol_count (now (pairs .entry)) pair_count (now (content .entry)) (now (fragments .entry))) (now (out .entry)) r (now (out .exit)) ⌝ }
+    ensures { λ r. ⌜ WritesOut big width (lent (now (text .entry)) (now (areas .entry)) na (now (symbols .entry)) ns (now (pairs .entry)) np (now (content .entry)) (now (fragments .entry))) (now (out .entry)) r (now (out .exit)) ⌝ }
 {
     let Formed::Is { form } = form_for(big, width) else {
         return WrittenNumbers {
@@ -142,11 +139,11 @@ pub extern "C" fn gatecobalt_write(
         form,
         text,
         areas,
-        area_count,
+        na,
         symbols,
-        symbol_count,
+        ns,
         pairs,
-        pair_count,
+        np,
         content,
         fragments,
         out,
