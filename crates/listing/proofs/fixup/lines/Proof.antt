@@ -4,7 +4,7 @@ use Rattle.listing.proofs.fixup.lines.Statement.{statement}
 use Rattle.listing.proofs.fixup.lines.Tie as tie
 use Rattle.listing.proofs.fixup.lines.Reads as reads
 use Rattle.listing.proofs.fixup.lines.Lts as lts
-use Rattle.listing.proofs.fixup.line.Reads as line-reads
+use Rattle.fixup_line.proofs.line.Reads as line-reads
 use Rattle.fixup_rows.proofs.fixup_at.Reads as fixup-at-reads
 use Rattle.fixup_rows.proofs.fixup_name.Reads as fixup-name-reads
 use Rattle.fixup_rows.proofs.area_fixups.Reads as area-fixups-reads
