@@ -1,5 +1,4 @@
 // What C and Rust link: both readings, over numbers and slices. Every function answers for every input; none asks anything of its caller.
-ghost use mathlib.Core.Path.{_≡_};
 ghost use mathlib.Core.Bool.{false};
 ghost use Rattle.reading.specs.Answer.{held};
 ghost use Rattle.exports.specs.Answers.{Answers, EndedAnswers};
