@@ -5,18 +5,17 @@ use mathlib.Core.Path.{_≡_, refl, sym, ap, _∙_}
 use mathlib.Core.Bool.{Bool, false, true}
 use mathlib.Core.Logic.{_⊎_, inl, inr}
 use mathlib.Core.List.{List, [], _∷_}
-use native.Mathlib.Nat.{div-eq-of-lt, eq-or-lt-of-le, mod-eq-of-lt, pow-le-pow-right, div-mul-le-self, mod-lt, lt-of-mul-lt-mul-right, mul-le-mul-right, suc-mul}
+use native.Mathlib.Nat.{eq-or-lt-of-le, mod-eq-of-lt, pow-le-pow-right, div-mul-le-self, mod-lt, lt-of-mul-lt-mul-right, mul-le-mul-right, suc-mul}
 use native.Mathlib.Omega.{arith}
 use denote.Enum.Declared.{tagOf}
 use types.Run.{OneOf, miss}
 use mir.Syntax.{w64}
 use mir.Val.{Fits}
 use lib.Dec.{lit<, lit≤}
-use lib.ListN.{List·getD-eq-default, drop, getD, length, take}
+use lib.ListN.{drop, getD, length, take}
 use lib.Pow.{pow-add, pow-pos}
 use borrow.Author.Needs.{needs}
 use borrow.Author.Tests.{eq-eqb, ne-eqb}
-use Rattle.format.specs.Lists.{pick}
 use Rattle.format.specs.Number.{horner, join, little}
 use Rattle.format.specs.Mode as the
 use Rattle.format.specs.Mode.{Class, bit}
