@@ -54,15 +54,25 @@ fn begins(shown: &mut [u8], name: &[u8]) {
 }
 
 // The same in an array.
-fn begins_in(shown: &mut [u8; 62], name: &[u8]) {
+fn begins_in(shown: &mut [u8; 62], name: &Name) {
     begins(shown, name)
 }
 
+// A file, shown under what an array holds.
+fn one_begun(g: Going, out: &mut Buffer, file: &[u8], shown: &[u8; 62], next: Cursor) -> Turn {
+    one(g, out, file, shown, next)
+}
+
 // A file, shown under a name that is too long.
-fn long(g: Going, out: &mut Buffer, file: &[u8], name: &[u8], next: Cursor) -> Turn {
+fn long(g: Going, out: &mut Buffer, file: &[u8], name: &Name, next: Cursor) -> Turn {
     let mut shown = [0u8; 62];
     begins_in(&mut shown, name);
-    one(g, out, file, &shown, next)
+    one_begun(g, out, file, &shown, next)
+}
+
+// A file whose name is too long.
+fn long_name(g: Going, out: &mut Buffer, name: &Name, next: Cursor) -> Turn {
+    long(g, out, name, name, next)
 }
 
 // The first n bytes of a second line.
@@ -120,7 +130,7 @@ fn next_turn(g: Going, out: &mut Buffer, block: &mut Block, name: &mut Name) -> 
     }
     match name_lines::next_line(block, name, cursor) {
         Line::Name { length, next } => file_of(g, out, block, name, length, next),
-        Line::Long { next } => long(g, out, name, name, next),
+        Line::Long { next } => long_name(g, out, name, next),
         Line::Empty { next } => Turn::On(Going {
             tally: tally,
             cursor: next,
