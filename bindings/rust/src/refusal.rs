@@ -44,10 +44,12 @@ pub enum Refusal {
     NotInBook = 23,
     /// Too little room for a pattern.
     NoRoom = 24,
+    /// A module outside the conditions under which code is placed.
+    NotPlaced = 25,
 }
 
 /// Every refusal, in the order of their numbers.
-const ALL: [Refusal; 19] = [
+const ALL: [Refusal; 20] = [
     Refusal::ShortBuffer,
     Refusal::LongText,
     Refusal::HighByte,
@@ -67,10 +69,11 @@ const ALL: [Refusal; 19] = [
     Refusal::NotClosed,
     Refusal::NotInBook,
     Refusal::NoRoom,
+    Refusal::NotPlaced,
 ];
 
 impl Refusal {
-    /// Its number, 1 to 14 or 20 to 24.
+    /// Its number, 1 to 14 or 20 to 25.
     #[must_use]
     pub fn number(self) -> u32 {
         self as u32
@@ -107,6 +110,7 @@ impl Refusal {
             Refusal::NotClosed => "a gap, an overlap or bytes left over",
             Refusal::NotInBook => "the name is not in the book",
             Refusal::NoRoom => "too little room for the pattern",
+            Refusal::NotPlaced => "a module outside the conditions under which code is placed",
         }
     }
 
