@@ -128,6 +128,14 @@ typedef struct {
 /* The room for a list that no two modules fill, in elements. */
 #define GATECOBALT_CHANGES (135232 * GATECOBALT_CHANGE_WIDTH)
 
+/* What placing tells. A refusal: its number (1 to 13, or 25 for a module outside the conditions under which
+ * code is placed) and place, and no byte has changed. Otherwise refusal is 0, and bytes is how many were placed. */
+typedef struct {
+    uint32_t refusal;
+    size_t place;
+    size_t bytes;
+} gatecobalt_placed;
+
 /* What changed: a refusal's number, 1 if it is the older text's, 2 if it is the newer's, and its
  * place; 19 if one of them is not finished; 16 if the list has too little room; or 0 and how many rows
  * there are. A refusal leaves the list as it was; behind the rows it keeps its numbers. */
@@ -305,6 +313,18 @@ gatecobalt_written gatecobalt_write(bool big, uint32_t width, const uint8_t *tex
     const uint32_t *pairs, size_t pairs_length, size_t pair_count,
     const uint8_t *content, size_t content_length, const uint32_t *fragments, size_t fragments_length,
     uint8_t *out, size_t out_length);
+
+/* A module's code at chosen addresses, as a linker places it, into a buffer of GATECOBALT_VALUES bytes or more:
+ * those of all kept areas, one behind the other. areas has the address of each kept area by its id, symbols that of
+ * each outside symbol by its index in the symbol table; what stands there for a Def is not looked at. 1 for a
+ * shorter buffer or fewer addresses than kept areas or symbols. It takes under 1 MiB of stack and no heap. */
+gatecobalt_placed gatecobalt_place(const uint8_t *text, size_t text_length, const uint64_t *areas,
+    size_t areas_length, const uint64_t *symbols, size_t symbols_length, uint8_t *out, size_t out_length);
+
+/* The first position at which code does not have a pattern's bits wherever the mask has a one; code_length where
+ * it matches. Behind the end of values or masks any byte matches. */
+size_t gatecobalt_mismatch(const uint8_t *values, size_t values_length, const uint8_t *masks,
+    size_t masks_length, const uint8_t *code, size_t code_length);
 
 /* The widths and rooms above, as the library has them. */
 gatecobalt_row_widths gatecobalt_widths(void);

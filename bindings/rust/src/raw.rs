@@ -63,6 +63,14 @@ pub(crate) struct ChangedNumbers {
     pub rows: usize,
 }
 
+/// What placing tells: a refusal and its place, or 0 and how many bytes were placed.
+#[repr(C)]
+pub(crate) struct PlaceNumbers {
+    pub refusal: u32,
+    pub place: usize,
+    pub bytes: usize,
+}
+
 /// Numbers in a row of each table.
 #[repr(C)]
 #[derive(Clone, Copy, Debug, PartialEq, Eq)]
@@ -176,6 +184,26 @@ extern "C" {
         list: *mut u32,
         list_len: usize,
     ) -> ChangedNumbers;
+    /// A module's code at chosen addresses.
+    fn gatecobalt_place(
+        text: *const u8,
+        text_len: usize,
+        areas: *const u64,
+        areas_len: usize,
+        symbols: *const u64,
+        symbols_len: usize,
+        out: *mut u8,
+        out_len: usize,
+    ) -> PlaceNumbers;
+    /// The first position at which code does not match a pattern.
+    fn gatecobalt_mismatch(
+        values: *const u8,
+        values_len: usize,
+        masks: *const u8,
+        masks_len: usize,
+        code: *const u8,
+        code_len: usize,
+    ) -> usize;
     /// Numbers in a row of each table.
     fn gatecobalt_widths() -> Widths;
     /// The longest text, and the room of each lent buffer.
@@ -262,6 +290,38 @@ pub(crate) fn changes(older: &[u8], newer: &[u8], list: &mut [u32]) -> ChangedNu
             newer.len(),
             list.as_mut_ptr(),
             list.len(),
+        )
+    }
+}
+
+/// A module's code at chosen addresses, into a lent buffer.
+pub(crate) fn place(text: &[u8], areas: &[u64], symbols: &[u64], out: &mut [u8]) -> PlaceNumbers {
+    // SAFETY: three slices that are read and one that is borrowed for writing alone, with their lengths.
+    unsafe {
+        gatecobalt_place(
+            text.as_ptr(),
+            text.len(),
+            areas.as_ptr(),
+            areas.len(),
+            symbols.as_ptr(),
+            symbols.len(),
+            out.as_mut_ptr(),
+            out.len(),
+        )
+    }
+}
+
+/// The first position at which code does not match a pattern.
+pub(crate) fn mismatch(values: &[u8], masks: &[u8], code: &[u8]) -> usize {
+    // SAFETY: three slices that are read, with their lengths.
+    unsafe {
+        gatecobalt_mismatch(
+            values.as_ptr(),
+            values.len(),
+            masks.as_ptr(),
+            masks.len(),
+            code.as_ptr(),
+            code.len(),
         )
     }
 }

@@ -50,10 +50,12 @@ pub enum Refusal {
     NotInBook = 23,
     /// Too little room for a pattern.
     NoRoom = 24,
+    /// A module outside the conditions under which code is placed.
+    NotPlaced = 25,
 }
 
 /// Every refusal, in the order of their numbers.
-const ALL: [Refusal; 22] = [
+const ALL: [Refusal; 23] = [
     Refusal::ShortBuffer,
     Refusal::LongText,
     Refusal::HighByte,
@@ -76,10 +78,11 @@ const ALL: [Refusal; 22] = [
     Refusal::NotClosed,
     Refusal::NotInBook,
     Refusal::NoRoom,
+    Refusal::NotPlaced,
 ];
 
 impl Refusal {
-    /// Its number, 1 to 16, 18 or 20 to 24.
+    /// Its number, 1 to 16, 18 or 20 to 25.
     #[must_use]
     pub fn number(self) -> u32 {
         self as u32
@@ -119,6 +122,7 @@ impl Refusal {
             Refusal::NotClosed => "a gap, an overlap or bytes left over",
             Refusal::NotInBook => "the name is not in the book",
             Refusal::NoRoom => "too little room for the pattern",
+            Refusal::NotPlaced => "a module outside the conditions under which code is placed",
         }
     }
 

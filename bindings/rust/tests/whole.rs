@@ -99,7 +99,7 @@ fn refusals_have_their_numbers_and_places() {
     assert_eq!(fault(b""), Some(refused(Refusal::NoHeader, 0)));
     for number in 0..40 {
         let refusal = Refusal::from_number(number);
-        let known = (1..=16).contains(&number) || number == 18 || (20..=24).contains(&number);
+        let known = (1..=16).contains(&number) || number == 18 || (20..=25).contains(&number);
         assert_eq!(refusal.is_some(), known);
         assert_eq!(refusal.map_or(number, Refusal::number), number);
     }

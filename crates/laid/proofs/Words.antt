@@ -145,7 +145,7 @@ body-from fm (placed c r) h = fragments-from fm (r .fragments) (h .0) (h .1)
 
 -- ------------------------------------------------------------------ positions
 
-misses-to : (cs ds : List Cell) (i : ℕ) → misses cs ds ≡ true → written (cellAt cs i) ≡ true → written (cellAt ds i) ≡ true → ⊥
+pub misses-to : (cs ds : List Cell) (i : ℕ) → misses cs ds ≡ true → written (cellAt cs i) ≡ true → written (cellAt ds i) ≡ true → ⊥
 unfolding misses cellAt
 misses-to [] ds i h p q = false≢true p
 misses-to (c ∷ cs) ds i h p q =
@@ -156,7 +156,7 @@ misses-to (c ∷ cs) ds i h p q =
     go true e f k n = let z : written (cellAt ds i) ≡ false = rw (eqb-true (c .at) i e) at n in false≢true (sym z ∙ q)
     go false e f k n = f k q
 
-misses-from : (cs ds : List Cell) → ((i : ℕ) → written (cellAt cs i) ≡ true → written (cellAt ds i) ≡ true → ⊥) → misses cs ds ≡ true
+pub misses-from : (cs ds : List Cell) → ((i : ℕ) → written (cellAt cs i) ≡ true → written (cellAt ds i) ≡ true → ⊥) → misses cs ds ≡ true
 unfolding misses cellAt
 misses-from [] ds f = refl
 misses-from (c ∷ cs) ds f =
