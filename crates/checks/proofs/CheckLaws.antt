@@ -19,8 +19,8 @@ use Rattle.format.specs.Tables.{Tables}
 use Rattle.laws.specs.Rows.{from}
 use Rattle.laws.proofs.Areas.{one-at-most}
 use Rattle.sites.specs.declared.Site.{Site}
-use Rattle.checks.specs.declared.check.Fixed.{Fixed}
-use Rattle.checks.specs.declared.check.Fixed.the-variants.{Refused, Rows}
+use Rattle.checks.specs.declared.check.RowCount.{RowCount}
+use Rattle.checks.specs.declared.check.RowCount.the-variants.{Refused, Rows}
 use Rattle.references.specs.declared.Reference.{Reference}
 use Rattle.references.specs.declared.Refers.{Refers}
 use Rattle.references.specs.declared.Refers.the-variants.{Missing, Nothing, To}
@@ -65,7 +65,7 @@ module _ (i n k : ℕ) {to : Refers} where
   unfolding countFor
   count-nothing h g = record { says = λ place. rw g; room = h; grew = omega arith }
 
-  pub count-one : k ≤ 1024 → {t : Reference} → to ≡ To t → {r : Fixed} → OneMore i n k r → Tallied (countFor to i n k) k r
+  pub count-one : k ≤ 1024 → {t : Reference} → to ≡ To t → {r : RowCount} → OneMore i n k r → Tallied (countFor to i n k) k r
   unfolding countFor
   count-one h g a = record { says = λ place. rw g (a .says place); room = a .room h; grew = a .grew h }
 
@@ -98,7 +98,7 @@ module _ {ms es xs areas symbols : List ℕ} {s : Site} {entry k j i : ℕ} (w :
   counting-room = w .room
 
   module _ (h : i < s .line .fragments) (to : Refers) (a : (place : ℕ) → ref.told place to ≡ refersIn areas symbols (s .filled) (fragmentAt ms es xs i) entry place)
-      {r : Fixed} (b : Tallied (countFor to i (s .made) j) j r) where
+      {r : RowCount} (b : Tallied (countFor to i (s .made) j) j r) where
     next : (place : ℕ) → countEntry ms es xs areas symbols s entry k place
         ≡ andThen (toldCount place r) (λ x. countsAt (tablesFor areas symbols (s .filled)) (s .made) entry (suc i) (from (fragmentAt ms es xs) (suc i) (s .line .fragments - suc i)) x place)
     unfolding countsAt from countFor refersIn
@@ -178,7 +178,7 @@ module _ {ms es xs areas symbols : List ℕ} {s : Site} {keeps : List ℕ} {n k 
     grew = w .grew;
   }
 
-  module _ (h : e < n) (l : p < s .size) {r : Fixed} (a : Tallied (countEntry ms es xs areas symbols s e k) k r) where
+  module _ (h : e < n) (l : p < s .size) {r : RowCount} (a : Tallied (countEntry ms es xs areas symbols s e k) k r) where
     onward : (place : ℕ) → countLine ms es xs areas symbols s keeps place
         ≡ andThen (toldCount place r) (λ j. countWalk (tablesFor areas symbols (s .filled)) (s .made) (s .size) (fragmentsIn ms es xs (s .line .fragments)) keeps (n - suc e) (suc e) (p + pick (eqb (getD keeps e 0) 1) 1 0) j place)
     unfolding countWalk countEntry

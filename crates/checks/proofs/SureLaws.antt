@@ -22,8 +22,8 @@ use Rattle.format.specs.Fixups.{Reference, toArea, symbolRef, reference}
 use Rattle.laws.specs.Rows.{from, areasIn, symbolAt, symbolsIn, tablesIn, fragment}
 use Rattle.laws.proofs.Outcomes.{Fine, follow}
 use Rattle.sites.specs.declared.Site.{Site}
-use Rattle.checks.specs.declared.check.Fixed.{Fixed}
-use Rattle.checks.specs.declared.check.Fixed.the-variants.{Refused, Rows}
+use Rattle.checks.specs.declared.check.RowCount.{RowCount}
+use Rattle.checks.specs.declared.check.RowCount.the-variants.{Refused, Rows}
 use Rattle.checks.specs.declared.check.Checked.the-variants as checked
 use Rattle.references.specs.References.{refersAt}
 use Rattle.sites.specs.Columns.{fragmentAt, fragmentsIn}
@@ -175,7 +175,7 @@ module _ (ms es xs areas symbols : List ℕ) (s : Site) (keeps : List ℕ) where
     goes = λ x g place. rw (line-up (f e) place .is-fine);
   }
 
-  pub pass-tallied : {k : ℕ} {r : Fixed} → Tallied (countLine ms es xs areas symbols s keeps) k r → Passes (countLine ms es xs areas symbols s keeps) r
+  pub pass-tallied : {k : ℕ} {r : RowCount} → Tallied (countLine ms es xs areas symbols s keeps) k r → Passes (countLine ms es xs areas symbols s keeps) r
   pass-tallied a = record {
     stops = λ x g place. sym (rw g at (a .says place));
     goes = λ x g place. rw (← a .says place, g);
@@ -195,7 +195,7 @@ module _ (ms es xs areas symbols : List ℕ) (s : Site) (keeps : List ℕ) {t : 
     pub check-ready : Ready s
     check-ready = ready-by s is-true
 
-    module _ {r : Fixed} (a : Passes (countLine ms es xs areas symbols s keeps) r) where
+    module _ {r : RowCount} (a : Passes (countLine ms es xs areas symbols s keeps) r) where
       pub check-refused : {n : ℕ} → r ≡ Refused n → Judged s (countLine ms es xs areas symbols s keeps) (checked.Refused n)
       check-refused {n} g = record { says = λ place. rw (is-true, a .stops n g place) }
 

@@ -13,8 +13,8 @@ use Rattle.format.specs.Outcome.{Outcome, fine, refused, andThen}
 use Rattle.format.specs.Tables.{Tables}
 use Rattle.format.specs.Fixups.{Reference}
 use Rattle.sites.specs.declared.Site.{Site}
-use Rattle.checks.specs.declared.check.Fixed.{Fixed}
-use Rattle.checks.specs.declared.check.Fixed.the-variants.{Refused, Rows}
+use Rattle.checks.specs.declared.check.RowCount.{RowCount}
+use Rattle.checks.specs.declared.check.RowCount.the-variants.{Refused, Rows}
 use Rattle.references.specs.declared.Refers.{Refers}
 use Rattle.sites.specs.Site.{isReady, tablesFor}
 use Rattle.checks.specs.declared.check.Checked.{Checked}
@@ -60,22 +60,22 @@ countLine ms es xs areas symbols s keeps place =
     countWalk (tablesFor areas symbols (s .filled)) (s .made) (s .size) (fragmentsIn ms es xs (s .line .fragments)) keeps (s .line .width + s .line .bytes) 0 (s .line .address) (s .filled .fixups) place
 
 -- what an answer says
-abbrev pub toldCount : (place : ℕ) → Fixed → Outcome ℕ
+abbrev pub toldCount : (place : ℕ) → RowCount → Outcome ℕ
 toldCount place (Refused n) = refused n place
 toldCount place (Rows k) = fine k
 
 -- how many rows there may be then
-abbrev pub usedBy : Fixed → ℕ
+abbrev pub usedBy : RowCount → ℕ
 usedBy (Refused n) = 1024
 usedBy (Rows k) = k
 
 -- one more: what it says, and that there is room for it
-pub record OneMore (i n k : ℕ) (r : Fixed) : Type 0 where
+pub record OneMore (i n k : ℕ) (r : RowCount) : Type 0 where
   pub says : (place : ℕ) → toldCount place r ≡ countOne i n k place
   pub room : k ≤ 1024 → usedBy r ≤ 1024
   pub grew : k ≤ 1024 → k ≤ usedBy r
 
-pub record Tallied (o : ℕ → Outcome ℕ) (k : ℕ) (r : Fixed) : Type 0 where
+pub record Tallied (o : ℕ → Outcome ℕ) (k : ℕ) (r : RowCount) : Type 0 where
   pub says : (place : ℕ) → toldCount place r ≡ o place
   pub room : usedBy r ≤ 1024
   pub grew : k ≤ usedBy r
@@ -85,7 +85,7 @@ isFine (fine k) = true
 isFine (refused n p) = false
 
 -- the same without the count: a refusal is the definition's, and where there is none the definition has none
-pub record Passes (o : ℕ → Outcome ℕ) (r : Fixed) : Type 0 where
+pub record Passes (o : ℕ → Outcome ℕ) (r : RowCount) : Type 0 where
   pub stops : (x : ℕ) → r ≡ Refused x → (place : ℕ) → o place ≡ refused x place
   pub goes : (x : ℕ) → r ≡ Rows x → (place : ℕ) → isFine (o place) ≡ true
 

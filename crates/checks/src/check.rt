@@ -15,7 +15,7 @@ ghost use Rattle.sites.specs.Site.{Ready};
 ghost use Rattle.checks.specs.Check.{countOne, countFor, countEntry, countLine, OneMore, Tallied, Passes, Judged};
 
 // A refusal's number, or how many fixup rows there are.
-pub enum Fixed {
+pub enum RowCount {
     Refused(u32),
     Rows(usize),
 }
@@ -28,26 +28,26 @@ pub enum Checked {
 }
 
 // One fixup more than k, for the i-th fragment: 12 if there is no number i of n, 13 if there are too many.
-pub fn one_more(i: usize, n: usize, k: usize) -> Fixed
+pub fn one_more(i: usize, n: usize, k: usize) -> RowCount
     ensures { λ r. ⌜ OneMore i n k r ⌝ }
 {
     if n <= i {
-        return Fixed::Refused(12);
+        return RowCount::Refused(12);
     }
     if 1024 <= k {
-        return Fixed::Refused(13);
+        return RowCount::Refused(13);
     }
-    Fixed::Rows(k + 1)
+    RowCount::Rows(k + 1)
 }
 
 // How many fixups there are behind the i-th fragment, with k before it.
-fn count_to(to: Refers, i: usize, n: usize, k: usize) -> Fixed
+fn count_to(to: Refers, i: usize, n: usize, k: usize) -> RowCount
     requires { ⌜ k ≤ 1024 ⌝ }
     ensures { λ r. ⌜ Tallied (countFor to i n k) k r ⌝ }
 {
     match to {
-        Refers::Missing => Fixed::Refused(11),
-        Refers::Nothing => Fixed::Rows(k),
+        Refers::Missing => RowCount::Refused(11),
+        Refers::Nothing => RowCount::Rows(k),
         Refers::To(_) => one_more(i, n, k),
     }
 }
@@ -62,7 +62,7 @@ fn check_entry(
     symbols: &[u32],
     e: u32,
     k: usize,
-) -> Fixed
+) -> RowCount
     requires { ⌜ Ready site ⌝ }
     requires { ⌜ k ≤ 1024 ⌝ }
     ensures { λ r. ⌜ Tallied (countEntry (now (ms .entry)) (now (es .entry)) (now (xs .entry)) (now (areas .entry)) (now (symbols .entry)) site e k) k r ⌝ }
@@ -72,13 +72,13 @@ fn check_entry(
     while i < site.line.fragments {
         let to = refers_at(ms, es, xs, areas, symbols, site.filled, i, e);
         let r = count_to(to, i, site.made, j);
-        let Fixed::Rows(x) = r else {
+        let RowCount::Rows(x) = r else {
             return r;
         };
         j = x;
         i += 1;
     }
-    Fixed::Rows(j)
+    RowCount::Rows(j)
 }
 
 // By how much the position grows behind the entry e: 1 if it is kept.
@@ -97,7 +97,7 @@ fn check_line(
     areas: &[u32],
     symbols: &[u32],
     wk: &[u8],
-) -> Fixed
+) -> RowCount
     requires { ⌜ Ready site ⌝ }
     ensures { λ r. ⌜ Tallied (countLine (now (ms .entry)) (now (es .entry)) (now (xs .entry)) (now (areas .entry)) (now (symbols .entry)) site (now (wk .entry))) (site .filled .fixups) r ⌝ }
 {
@@ -107,17 +107,17 @@ fn check_line(
     let mut p = site.line.address;
     while e < n {
         if site.size <= p {
-            return Fixed::Rows(k);
+            return RowCount::Rows(k);
         }
         let r = check_entry(site, ms, es, xs, areas, symbols, e, k);
-        let Fixed::Rows(x) = r else {
+        let RowCount::Rows(x) = r else {
             return r;
         };
         p += grows(wk, e);
         k = x;
         e += 1;
     }
-    Fixed::Rows(k)
+    RowCount::Rows(k)
 }
 
 // The same, spared where it is sure that no refusal comes: then no fixups are counted.
@@ -129,12 +129,12 @@ fn passes(
     areas: &[u32],
     symbols: &[u32],
     wk: &[u8],
-) -> Fixed
+) -> RowCount
     requires { ⌜ Ready site ⌝ }
     ensures { λ r. ⌜ Passes (countLine (now (ms .entry)) (now (es .entry)) (now (xs .entry)) (now (areas .entry)) (now (symbols .entry)) site (now (wk .entry))) r ⌝ }
 {
     if sure(site, ms, xs) {
-        return Fixed::Rows(site.filled.fixups);
+        return RowCount::Rows(site.filled.fixups);
     }
     check_line(site, ms, es, xs, areas, symbols, wk)
 }
@@ -155,7 +155,7 @@ pub fn check_pair(
         return Checked::Misfit;
     }
     match passes(site, ms, es, xs, areas, symbols, wk) {
-        Fixed::Refused(n) => Checked::Refused(n),
-        Fixed::Rows(_) => Checked::Passed,
+        RowCount::Refused(n) => Checked::Refused(n),
+        RowCount::Rows(_) => Checked::Passed,
     }
 }

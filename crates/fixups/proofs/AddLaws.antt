@@ -22,8 +22,8 @@ use Rattle.sites.specs.declared.Site.{Site}
 use Rattle.references.specs.declared.Reference.{Reference}
 use Rattle.references.specs.declared.Refers.{Refers}
 use Rattle.references.specs.declared.Refers.the-variants.{Missing, Nothing, To}
-use Rattle.checks.specs.declared.check.Fixed.{Fixed}
-use Rattle.checks.specs.declared.check.Fixed.the-variants.{Refused, Rows}
+use Rattle.checks.specs.declared.check.RowCount.{RowCount}
+use Rattle.checks.specs.declared.check.RowCount.the-variants.{Refused, Rows}
 use Rattle.checks.specs.Check.{countOne, OneMore}
 use Rattle.fixups.specs.Walk.{fixup, Within, OneRow, Added}
 use Rattle.fixups.proofs.RowLaws.{row-made, row-rest}
@@ -55,7 +55,7 @@ pub nine-fits : (k : ℕ) → k < 1024 → Fits w64 (9 * k)
 nine-fits k h = record { fits = omega arith }
 
 -- `write_row`: r is what the count said
-module _ (s : Site) (ms ns : List ℕ) (t : Reference) (i position k : ℕ) (rows : List ℕ) {r : Fixed} (a : OneMore i (s .made) k r) where
+module _ (s : Site) (ms ns : List ℕ) (t : Reference) (i position k : ℕ) (rows : List ℕ) {r : RowCount} (a : OneMore i (s .made) k r) where
   pub row-refused : k ≤ 1024 → {x : ℕ} → r ≡ Refused x → Added s ms ns (To t) i position k rows r rows
   unfolding countOne
   row-refused hk {x} g = record {
@@ -106,7 +106,7 @@ module _ (s : Site) (ms ns : List ℕ) (i position k : ℕ) (rows : List ℕ) {t
   pub add-nothing : k ≤ 1024 → to ≡ Nothing → Added s ms ns to i position k rows (Rows k) rows
   add-nothing hk g = record { says = λ w f en el eh em. rw g; within = same k rows hk }
 
-  pub add-to : {t : Reference} → to ≡ To t → {r : Fixed} {rows′ : List ℕ} → Added s ms ns (To t) i position k rows r rows′ → Added s ms ns to i position k rows r rows′
+  pub add-to : {t : Reference} → to ≡ To t → {r : RowCount} {rows′ : List ℕ} → Added s ms ns (To t) i position k rows r rows′ → Added s ms ns to i position k rows r rows′
   add-to g a = rw g a
 
 pub ruleset adding = (needs, add-missing, add-nothing, add-to)

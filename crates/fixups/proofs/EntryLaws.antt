@@ -23,8 +23,8 @@ use Rattle.sites.specs.Columns.{fragmentAt, fragmentsIn}
 use Rattle.references.specs.declared.Refers.{Refers}
 use Rattle.references.specs.References as ref
 use Rattle.references.specs.References.{refersAt, refersIn}
-use Rattle.checks.specs.declared.check.Fixed.{Fixed}
-use Rattle.checks.specs.declared.check.Fixed.the-variants.{Refused, Rows}
+use Rattle.checks.specs.declared.check.RowCount.{RowCount}
+use Rattle.checks.specs.declared.check.RowCount.the-variants.{Refused, Rows}
 use Rattle.checks.specs.Check.{usedBy}
 use Rattle.fixups.specs.Next.{Clear}
 use Rattle.fixups.specs.Walk.{siteOf, entryAt, told, Within, Added, Made}
@@ -36,7 +36,7 @@ further xs ys a b h e =
     let z : b ≡ a + (b - a) = omega arith in
     ap (λ (n : ℕ). drop n xs) z ∙ (sym (drop-drop (b - a) a xs) ∙ (ap (λ (l : List ℕ). drop (b - a) l) e ∙ (drop-drop (b - a) a ys ∙ ap (λ (n : ℕ). drop n ys) (sym z))))
 
-pub then-within : {k j : ℕ} {r : Fixed} {rows rows′ rows″ : List ℕ} → Within k (Rows j) rows rows′ → Within j r rows′ rows″ → Within k r rows rows″
+pub then-within : {k j : ℕ} {r : RowCount} {rows rows′ rows″ : List ℕ} → Within k (Rows j) rows rows′ → Within j r rows′ rows″ → Within k r rows rows″
 then-within {k} {j} {r} {rows} {rows′} a b = record {
   room = b .room;
   grew = omega (arith, a .grew, b .grew);
@@ -86,7 +86,7 @@ module _ {ms es xs areas symbols ns : List ℕ} {s : Site} {entry position k : �
   fix-long h = omega (arith, w .long)
 
   module _ (h : i < s .line .fragments) (to : Refers) (a : (place : ℕ) → ref.told place to ≡ refersIn areas symbols (s .filled) (fragmentAt ms es xs i) entry place)
-      {r : Fixed} {left′ : List ℕ} (b : Added s ms ns to i position j left r left′) where
+      {r : RowCount} {left′ : List ℕ} (b : Added s ms ns to i position j left r left′) where
     one : (place : ℕ) → fixupAt (siteOf areas symbols ns s place) entry position i (fragmentAt ms es xs i) (fixupsIn left j) ≡ told place r left′
     unfolding siteOf refersIn fragmentAt
     one place =

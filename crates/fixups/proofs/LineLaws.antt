@@ -22,8 +22,8 @@ use Rattle.laws.proofs.Areas.{one-at-most}
 use Rattle.sites.specs.declared.Site.{Site}
 use Rattle.sites.specs.Columns.{fragmentsIn}
 use Rattle.sites.specs.Site.{Ready}
-use Rattle.checks.specs.declared.check.Fixed.{Fixed}
-use Rattle.checks.specs.declared.check.Fixed.the-variants.{Refused, Rows}
+use Rattle.checks.specs.declared.check.RowCount.{RowCount}
+use Rattle.checks.specs.declared.check.RowCount.the-variants.{Refused, Rows}
 use Rattle.fixups.specs.Next.{Clear}
 use Rattle.fixups.specs.Walk.{siteOf, fixupsWalk, entryAt, lineAt, told, Within, Made}
 use Rattle.fixups.proofs.AddLaws.{same}
@@ -101,7 +101,7 @@ module _ {ms es xs areas symbols ns : List ℕ} {s : Site} {keeps : List ℕ} {n
     within = w .within;
   }
 
-  module _ (h : t < n) (l : p < s .size) {r : Fixed} {left′ : List ℕ} (a : Made (entryAt ms es xs areas symbols ns s e p (fixupsIn left k)) k left r left′) where
+  module _ (h : t < n) (l : p < s .size) {r : RowCount} {left′ : List ℕ} (a : Made (entryAt ms es xs areas symbols ns s e p (fixupsIn left k)) k left r left′) where
     onward : (place : ℕ) → lineAt ms es xs areas symbols ns s keeps (fixupsIn rows (s .filled .fixups)) place
         ≡ andThen (told place r left′) (λ ys. fixupsWalk (siteOf areas symbols ns s place) (s .size) (fragmentsIn ms es xs (s .line .fragments)) keeps (n - suc e) (suc e) (p + pick (eqb (getD keeps e 0) 1) 1 0) ys)
     unfolding fixupsWalk entryAt

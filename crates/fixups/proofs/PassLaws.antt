@@ -23,8 +23,8 @@ use Rattle.sites.specs.Columns.{fragmentsIn}
 use Rattle.sites.specs.Site.{Ready, isReady, madeAt}
 use Rattle.sites.proofs.Fitting.{ready-by}
 use Rattle.references.specs.References.{refersAt}
-use Rattle.checks.specs.declared.check.Fixed.{Fixed}
-use Rattle.checks.specs.declared.check.Fixed.the-variants as fixed
+use Rattle.checks.specs.declared.check.RowCount.{RowCount}
+use Rattle.checks.specs.declared.check.RowCount.the-variants as fixed
 use Rattle.checks.specs.declared.check.Checked.{Checked}
 use Rattle.checks.specs.declared.check.Checked.the-variants as checked
 use Rattle.checks.specs.Check.{countOne, countTo, countsAt, countWalk, countLine, isFine, verdict, Judged}
@@ -86,10 +86,10 @@ many-walk w size fs keeps (suc m) entry position xs =
 
 -- ------------------------------------------------------------------ `rowed`, `pair_rows`
 
-pub rowed-refused : {r : Fixed} {n : ℕ} → r ≡ fixed.Refused n → Refused n ≡ rowedBy r
+pub rowed-refused : {r : RowCount} {n : ℕ} → r ≡ fixed.Refused n → Refused n ≡ rowedBy r
 rowed-refused g = rw g
 
-pub rowed-rows : {r : Fixed} {k : ℕ} → r ≡ fixed.Rows k → Rows k ≡ rowedBy r
+pub rowed-rows : {r : RowCount} {k : ℕ} → r ≡ fixed.Rows k → Rows k ≡ rowedBy r
 rowed-rows g = rw g
 
 pub ruleset rowed = (needs, rowed-refused, rowed-rows)
@@ -170,7 +170,7 @@ module _ (ms es xs areas symbols ns : List ℕ) (s : at.Site) (keeps rows : List
           let z : refused x 0 ≡ countLine ms es xs areas symbols s keeps 0 = ap many p ∙ line-many (passed-numbers a g ns hn) 0 in
           unlike x 0 0 (ap verdict z ∙ passes 0 .1)
 
-      made-by : (r : Fixed) {rows′ : List ℕ} → Made (lineAt ms es xs areas symbols ns s keeps (fixupsIn rows (s .filled .fixups))) (s .filled .fixups) rows r rows′
+      made-by : (r : RowCount) {rows′ : List ℕ} → Made (lineAt ms es xs areas symbols ns s keeps (fixupsIn rows (s .filled .fixups))) (s .filled .fixups) rows r rows′
           → PairRows true (lineAt ms es xs areas symbols ns s keeps (fixupsIn rows (s .filled .fixups))) rows (rowedBy r) rows′
       made-by (fixed.Refused x) {rows′} m = absurd (never x rows′ (m .says 0))
       made-by (fixed.Rows k) m = record {
@@ -180,7 +180,7 @@ module _ (ms es xs areas symbols ns : List ℕ) (s : at.Site) (keeps rows : List
         same = λ d. let z : _≡_ {A = ℕ} 0 1 = cc in absurd (omega arith);
       }
 
-      pub rows-made : {r : Fixed} {rows′ : List ℕ} → Made (lineAt ms es xs areas symbols ns s keeps (fixupsIn rows (s .filled .fixups))) (s .filled .fixups) rows r rows′
+      pub rows-made : {r : RowCount} {rows′ : List ℕ} → Made (lineAt ms es xs areas symbols ns s keeps (fixupsIn rows (s .filled .fixups))) (s .filled .fixups) rows r rows′
           → {q : Rowed} → q ≡ rowedBy r → PairRows (isReady s && leb 9216 (length rows)) (lineAt ms es xs areas symbols ns s keeps (fixupsIn rows (s .filled .fixups))) rows q rows′
       rows-made {r} m eq = rw (eq, passes 0 .0, room) (made-by r m)
 

@@ -10,13 +10,13 @@ use Rattle.format.specs.Lists.{pick}
 use Rattle.format.specs.Outcome.{Outcome, fine, refused}
 use Rattle.format.specs.Fixups.{Fixup}
 use Rattle.laws.specs.Rows.{fixupsIn}
-use Rattle.checks.specs.declared.check.Fixed.{Fixed}
-use Rattle.checks.specs.declared.check.Fixed.the-variants as fixed
+use Rattle.checks.specs.declared.check.RowCount.{RowCount}
+use Rattle.checks.specs.declared.check.RowCount.the-variants as fixed
 use Rattle.fixups.specs.declared.pass.Rowed.{Rowed}
 use Rattle.fixups.specs.declared.pass.Rowed.the-variants.{Misfit, Refused, Rows}
 
 -- the walk's answer, as the pair's
-abbrev pub rowedBy : Fixed → Rowed
+abbrev pub rowedBy : RowCount → Rowed
 rowedBy (fixed.Refused n) = Refused n
 rowedBy (fixed.Rows k) = Rows k
 

@@ -12,8 +12,8 @@ use Rattle.format.specs.Fixups.{Fixup, fixupTo, fixupsAt}
 use Rattle.format.specs.Fixups as defs
 use Rattle.laws.specs.Rows.{fixupsIn}
 use Rattle.sites.specs.declared.Site.{Site}
-use Rattle.checks.specs.declared.check.Fixed.{Fixed}
-use Rattle.checks.specs.declared.check.Fixed.the-variants.{Refused, Rows}
+use Rattle.checks.specs.declared.check.RowCount.{RowCount}
+use Rattle.checks.specs.declared.check.RowCount.the-variants.{Refused, Rows}
 use Rattle.references.specs.declared.Reference.{Reference}
 use Rattle.references.specs.declared.Refers.{Refers}
 use Rattle.references.specs.declared.Refers.the-variants.{To}
@@ -44,12 +44,12 @@ lineAt ms es xs areas symbols ns s keeps fs place =
     fixupsWalk (siteOf areas symbols ns s place) (s .size) (fragmentsIn ms es xs (s .line .fragments)) keeps (s .line .width + s .line .bytes) 0 (s .line .address) fs
 
 -- what an answer says, with the rows as they are then
-abbrev pub told : (place : ℕ) → Fixed → List ℕ → Outcome (List Fixup)
+abbrev pub told : (place : ℕ) → RowCount → List ℕ → Outcome (List Fixup)
 told place (Refused n) rows = refused n place
 told place (Rows k) rows = fine (fixupsIn rows k)
 
 -- no row behind the used ones is touched
-pub record Within (k : ℕ) (r : Fixed) (rows rows′ : List ℕ) : Type 0 where
+pub record Within (k : ℕ) (r : RowCount) (rows rows′ : List ℕ) : Type 0 where
   pub room : usedBy r ≤ 1024
   pub grew : k ≤ usedBy r
   pub rest : drop (9 * usedBy r) rows′ ≡ drop (9 * usedBy r) rows
@@ -66,12 +66,12 @@ pub record OneRow (k : ℕ) (x : Fixup) (rows rows′ : List ℕ) : Type 0 where
   pub rest : drop (9 * suc k) rows′ ≡ drop (9 * suc k) rows
 
 -- a row for what the i-th fragment refers to: 11, 12, 13, no row, or one
-pub record Added (s : Site) (ms ns : List ℕ) (to : Refers) (i position k : ℕ) (rows : List ℕ) (r : Fixed) (rows′ : List ℕ) : Type 0 where
+pub record Added (s : Site) (ms ns : List ℕ) (to : Refers) (i position k : ℕ) (rows : List ℕ) (r : RowCount) (rows′ : List ℕ) : Type 0 where
   pub says : (w : defs.Site) (f : Fragment) → w .numbers ≡ take (s .made) ns → length (w .numbers) ≡ s .made → w .home ≡ s .id → f .mode ≡ getD ms i 0
       → told (w .place) r rows′ ≡ andThen (ref.told (w .place) to) (λ x. fixupTo w i position f (fixupsIn rows k) x)
   pub within : Within k r rows rows′
 
 -- rows made for an entry, or for a line: what the definition says at each place
-pub record Made (o : ℕ → Outcome (List Fixup)) (k : ℕ) (rows : List ℕ) (r : Fixed) (rows′ : List ℕ) : Type 0 where
+pub record Made (o : ℕ → Outcome (List Fixup)) (k : ℕ) (rows : List ℕ) (r : RowCount) (rows′ : List ℕ) : Type 0 where
   pub says : (place : ℕ) → told place r rows′ ≡ o place
   pub within : Within k r rows rows′

@@ -1,7 +1,7 @@
 // A pair's fixup rows, once its check pass has ruled 11 to 13 out.
 use crate::walk::fixup_rows;
 use checks::Checked;
-use checks::Fixed;
+use checks::RowCount;
 use checks::check_pair;
 use rooms::FIXUP_ROOM;
 use sites::Site;
@@ -23,12 +23,12 @@ pub enum Rowed {
 }
 
 // The walk's answer, as the pair's.
-fn answered(r: Fixed) -> Rowed
+fn answered(r: RowCount) -> Rowed
     ensures { λ q. ⌜ q ≡ rowedBy r ⌝ }
 {
     match r {
-        Fixed::Refused(n) => Rowed::Refused(n),
-        Fixed::Rows(k) => Rowed::Rows(k),
+        RowCount::Refused(n) => Rowed::Refused(n),
+        RowCount::Rows(k) => Rowed::Rows(k),
     }
 }
 

@@ -1,7 +1,7 @@
 // The row of a fragment, behind the rows that are there.
 use cells::at;
 use cells::copy_u32s;
-use checks::Fixed;
+use checks::RowCount;
 use checks::one_more;
 use classes::size_on_site;
 use references::Reference;
@@ -40,17 +40,17 @@ fn write_row(
     p: u32,
     rows: &mut [u32],
     k: usize,
-) -> Fixed
+) -> RowCount
     requires { ⌜ (k ≤ 1024) × (9216 ≤ length (now rows)) ⌝ }
     ensures { λ r. ⌜ Added site (now (ms .entry)) (now (ns .entry)) (toReference t) i p k (now (rows .entry)) r (now (rows .exit)) ⌝ }
 {
     let r = one_more(i, site.made, k);
-    let Fixed::Rows(x) = r else {
+    let RowCount::Rows(x) = r else {
         return r;
     };
     let mode = at(ms, i);
     put_row(rows, k, site.id, p, size_on_site(mode), mode, t, at(ns, i));
-    Fixed::Rows(x)
+    RowCount::Rows(x)
 }
 
 // A row for what the i-th fragment refers to, if there is a reference.
@@ -63,13 +63,13 @@ pub(crate) fn add(
     p: u32,
     rows: &mut [u32],
     k: usize,
-) -> Fixed
+) -> RowCount
     requires { ⌜ (k ≤ 1024) × (9216 ≤ length (now rows)) ⌝ }
     ensures { λ r. ⌜ Added site (now (ms .entry)) (now (ns .entry)) to i p k (now (rows .entry)) r (now (rows .exit)) ⌝ }
 {
     match to {
-        Refers::Missing => Fixed::Refused(11),
-        Refers::Nothing => Fixed::Rows(k),
+        Refers::Missing => RowCount::Refused(11),
+        Refers::Nothing => RowCount::Rows(k),
         Refers::To(t) => write_row(site, ms, ns, t, i, p, rows, k),
     }
 }

@@ -2,7 +2,7 @@
 use crate::next::next_at;
 use crate::next::next_from;
 use crate::row::add;
-use checks::Fixed;
+use checks::RowCount;
 use checks::grows;
 use references::refers_at;
 use sites::Site;
@@ -26,7 +26,7 @@ fn fixups_at(
     p: u32,
     rows: &mut [u32],
     k: usize,
-) -> Fixed
+) -> RowCount
     requires { ⌜ Ready site ⌝ }
     requires { ⌜ (site .made ≤ length (now ns)) × (k ≤ 1024) × (9216 ≤ length (now rows)) ⌝ }
     ensures { λ r. ⌜ Made (entryAt (now (ms .entry)) (now (es .entry)) (now (xs .entry)) (now (areas .entry)) (now (symbols .entry)) (now (ns .entry)) site e p (fixupsIn (now (rows .entry)) k)) k (now (rows .entry)) r (now (rows .exit)) ⌝ }
@@ -36,13 +36,13 @@ fn fixups_at(
     while i < site.line.fragments {
         let to = refers_at(ms, es, xs, areas, symbols, site.filled, i, e);
         let r = add(site, ms, ns, to, i, p, rows, j);
-        let Fixed::Rows(x) = r else {
+        let RowCount::Rows(x) = r else {
             return r;
         };
         j = x;
         i += 1;
     }
-    Fixed::Rows(j)
+    RowCount::Rows(j)
 }
 
 // The same, and nothing to do below next, where no fragment gives a fixup.
@@ -59,14 +59,14 @@ fn entry_rows(
     p: u32,
     rows: &mut [u32],
     k: usize,
-) -> Fixed
+) -> RowCount
     requires { ⌜ Ready site ⌝ }
     requires { ⌜ Clear (now ms) (now es) (site .line .fragments) e next ⌝ }
     requires { ⌜ (site .made ≤ length (now ns)) × (k ≤ 1024) × (9216 ≤ length (now rows)) ⌝ }
     ensures { λ r. ⌜ Made (entryAt (now (ms .entry)) (now (es .entry)) (now (xs .entry)) (now (areas .entry)) (now (symbols .entry)) (now (ns .entry)) site e p (fixupsIn (now (rows .entry)) k)) k (now (rows .entry)) r (now (rows .exit)) ⌝ }
 {
     if e < next {
-        return Fixed::Rows(k);
+        return RowCount::Rows(k);
     }
     fixups_at(site, ms, es, xs, areas, symbols, ns, e, p, rows, k)
 }
@@ -82,7 +82,7 @@ pub(crate) fn fixup_rows(
     ns: &[u32],
     wk: &[u8],
     rows: &mut [u32],
-) -> Fixed
+) -> RowCount
     requires { ⌜ Ready site ⌝ }
     requires { ⌜ (site .made ≤ length (now ns)) × (9216 ≤ length (now rows)) ⌝ }
     ensures { λ r. ⌜ Made (lineAt (now (ms .entry)) (now (es .entry)) (now (xs .entry)) (now (areas .entry)) (now (symbols .entry)) (now (ns .entry)) site (now (wk .entry)) (fixupsIn (now (rows .entry)) (site .filled .fixups))) (site .filled .fixups) (now (rows .entry)) r (now (rows .exit)) ⌝ }
@@ -94,10 +94,10 @@ pub(crate) fn fixup_rows(
     let mut next = next_at(ms, es, site.line.fragments, 0);
     while next < n {
         if site.size <= p {
-            return Fixed::Rows(k);
+            return RowCount::Rows(k);
         }
         let r = entry_rows(site, ms, es, xs, areas, symbols, ns, next, e, p, rows, k);
-        let Fixed::Rows(x) = r else {
+        let RowCount::Rows(x) = r else {
             return r;
         };
         p += grows(wk, e);
@@ -105,5 +105,5 @@ pub(crate) fn fixup_rows(
         e += 1;
         next = next_from(ms, es, site.line.fragments, next, e);
     }
-    Fixed::Rows(k)
+    RowCount::Rows(k)
 }
