@@ -28,13 +28,17 @@ fn refusals_change_no_byte() {
     let refused = |refusal, place| Err(Refused { refusal, place });
     let mut out = vec![0xA5; 65536];
     let relative: &[u8] = b"XH2\nA C size 3 flags 20\nT 00 00 11 22\nR 00 00 00 00 04 02 00 00\n";
-    let common: &[u8] = b"XH2\nA C size 3 flags 20\nT 00 00 11 22\nR 00 00 00 00\nT 00 01 33\nR 00 00 00 00\n";
+    let common: &[u8] =
+        b"XH2\nA C size 3 flags 20\nT 00 00 11 22\nR 00 00 00 00\nT 00 01 33\nR 00 00 00 00\n";
     for text in [relative, common] {
         assert_eq!(place_into(text, &[0], &[], &mut out), refused(Refusal::NotPlaced, 0));
         assert_eq!(place_into(text, &[], &[], &mut out), refused(Refusal::ShortBuffer, 0));
     }
     assert_eq!(place_into(E1, &[0x4000], &[0], &mut out), refused(Refusal::ShortBuffer, 0));
-    assert_eq!(place_into(E1, &[0x4000], &[0, 0], &mut out[..65535]), refused(Refusal::ShortBuffer, 0));
+    assert_eq!(
+        place_into(E1, &[0x4000], &[0, 0], &mut out[..65535]),
+        refused(Refusal::ShortBuffer, 0)
+    );
     let past: &[u8] = b"XH2\nA C size 3 flags 20\nT 00 00 11\nR 00 00 00 00 04 02 00 00\n";
     assert_eq!(place_into(past, &[], &[], &mut out), refused(Refusal::PastLine, 24));
     assert!(out.iter().all(|&byte| byte == 0xA5));
