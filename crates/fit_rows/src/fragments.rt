@@ -11,7 +11,7 @@ use cells::wide;
 use mode::JumpType;
 use mode::class_of;
 use rooms::PAIR_WIDTH;
-use target_parts::has;
+use target_words::has;
 
 // Addr16 or Addr24.
 fn is_whole(mode: u32) -> bool

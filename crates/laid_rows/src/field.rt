@@ -14,7 +14,7 @@ use classes::size_on_site;
 use joining::endian_to_number;
 use number_bytes::put_number;
 use referred_address::Address;
-use target_parts::add64;
+use target_words::add64;
 
 // Whether a mode has three bytes on site.
 fn is_three(mode: u32) -> bool

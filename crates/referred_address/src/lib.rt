@@ -10,7 +10,7 @@ use references::Reference;
 use references::Refers;
 use references::refers_at;
 use sites::Filled;
-use target_parts::add64;
+use target_words::add64;
 
 // An address, or that no kept area and no outside symbol is referred to.
 pub enum Address {

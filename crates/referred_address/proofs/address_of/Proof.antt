@@ -6,7 +6,7 @@ use Rattle.referred_address.proofs.address_of.Lts as lts
 use Rattle.cells.proofs.wide.Reads as wide-reads
 use Rattle.referred_address.proofs.chosen_at.Reads as chosen-at-reads
 use Rattle.referred_address.proofs.far.Reads as far-reads
-use Rattle.target_parts.proofs.add64.Reads as add64-reads
+use Rattle.target_words.proofs.add64.Reads as add64-reads
 
 wide-requires : tie.Need-wide-requires
 wide-requires c κs = search adding

@@ -3,7 +3,7 @@ use Rattle.fit_rows.proofs.fragments.is_clear.Statement.{statement}
 use Rattle.fit_rows.proofs.fragments.is_clear.Tie as tie
 use Rattle.fit_rows.proofs.fragments.is_clear.Reads as reads
 use Rattle.fit_rows.proofs.fragments.is_clear.Lts as lts
-use Rattle.target_parts.proofs.has.Reads as has-reads
+use Rattle.target_words.proofs.has.Reads as has-reads
 
 has-requires : tie.Need-has-requires
 has-requires c κs = search clearing

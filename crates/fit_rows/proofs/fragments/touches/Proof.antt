@@ -5,7 +5,7 @@ use Rattle.fit_rows.proofs.fragments.touches.Reads as reads
 use Rattle.fit_rows.proofs.fragments.touches.Lts as lts
 use Rattle.class_rows.proofs.touched.Reads as touched-reads
 use Rattle.mode.proofs.class_of.Reads as class-of-reads
-use Rattle.target_parts.proofs.has.Reads as has-reads
+use Rattle.target_words.proofs.has.Reads as has-reads
 
 class-of-requires : tie.Need-class-of-requires
 class-of-requires c κs = search touching

@@ -6,7 +6,7 @@ use Rattle.laid_rows.proofs.field.lay_field.Lts as lts
 use Rattle.laid_rows.proofs.field.is_three.Reads as is-three-reads
 use Rattle.laid_rows.proofs.field.number_at.Reads as number-at-reads
 use Rattle.number_bytes.proofs.put_number.Reads as put-number-reads
-use Rattle.target_parts.proofs.add64.Reads as add64-reads
+use Rattle.target_words.proofs.add64.Reads as add64-reads
 
 is-three-requires : tie.Need-is-three-requires
 is-three-requires c κs = search fielding
