@@ -16,7 +16,7 @@ use Rattle.steps.specs.declared.pair.PairStep.{PairStep}
 use Rattle.steps.specs.declared.pair.PairStep.the-variants.{Ends, Takes}
 use Rattle.tables.specs.declared.group.Found.{Found}
 use Rattle.planning.specs.Plan.{endingOf, afterOf, steppedOf, oneMore, refusedPair, placedOf, planOf, turnOf, twoOf, goingAt, startingOf}
-use Rattle.planning.specs.declared.state.Standing.the-variants.{Made, Kept}
+use Rattle.planning.specs.declared.state.Standing.the-variants.{Made, Barred}
 use Rattle.planning.specs.declared.state.Progress.{Progress}
 use Rattle.planning.specs.declared.state.Paired.{Paired}
 use Rattle.planning.specs.declared.state.Paired.the-variants.{All, Rejected}
@@ -29,7 +29,7 @@ module _ (g : Progress) where
   pub ends-made : {k : ℕ} → g .standing ≡ Made k → All (g .lines) (g .stop) k ≡ endingOf g
   ends-made e = rw e
 
-  pub ends-kept : {n p : ℕ} → g .standing ≡ Kept n p → Rejected n p ≡ endingOf g
+  pub ends-kept : {n p : ℕ} → g .standing ≡ Barred n p → Rejected n p ≡ endingOf g
   ends-kept e = rw e
 
   pub after-on : g .on ≡ true → Goes g ≡ afterOf g
@@ -92,7 +92,7 @@ unfolding oneMore
 more-uncounted n h = rw (le-ltb n 18446744073709551615 h)
 
 module _ (d : Found) (z : ℕ) {g : Progress} where
-  pub start-nine : 65536 < z → g ≡ goingAt d 0 (d .more) (Kept 9 0) → g ≡ startingOf d z
+  pub start-nine : 65536 < z → g ≡ goingAt d 0 (d .more) (Barred 9 0) → g ≡ startingOf d z
   start-nine h e = rw (e, lt-ltb 65536 z h)
 
   pub start-none : z ≤ 65536 → g ≡ goingAt d z (d .more) (Made 0) → g ≡ startingOf d z

@@ -14,7 +14,7 @@ use Rattle.steps.specs.declared.pair.PairStep.{PairStep}
 use Rattle.steps.specs.declared.pair.PairStep.the-variants.{Ends, Takes}
 use Rattle.tables.specs.declared.group.Found.{Found}
 use Rattle.planning.specs.declared.state.Standing.{Standing}
-use Rattle.planning.specs.declared.state.Standing.the-variants.{Made, Kept}
+use Rattle.planning.specs.declared.state.Standing.the-variants.{Made, Barred}
 use Rattle.planning.specs.declared.state.Progress.{Progress}
 use Rattle.planning.specs.declared.state.Paired.{Paired}
 use Rattle.planning.specs.declared.state.Paired.the-variants.{All, Rejected}
@@ -26,7 +26,7 @@ use Rattle.planning.specs.declared.state.Plan.the-variants.{Leave, Place
 -- what is answered at the end, and in a turn
 abbrev pub endingWith : Standing → (lines stop : ℕ) → Paired
 endingWith (Made k) n stop = All n stop k
-endingWith (Kept x p) n stop = Rejected x p
+endingWith (Barred x p) n stop = Rejected x p
 
 abbrev pub endingOf : Progress → Paired
 endingOf g = endingWith (g .standing) (g .lines) (g .stop)
@@ -78,4 +78,4 @@ goingAt d n on s =
     record { areas = d .areas; symbols = d .symbols; positions = n; next = d .next; stop = d .stop; lines = 0; on = on; standing = s; home = noHome (d .areas) }
 
 abbrev pub startingOf : Found → (total : ℕ) → Progress
-startingOf d z = pick (ltb 65536 z) (goingAt d 0 (d .more) (Kept 9 0)) (goingAt d z (d .more) (Made 0))
+startingOf d z = pick (ltb 65536 z) (goingAt d 0 (d .more) (Barred 9 0)) (goingAt d z (d .more) (Made 0))

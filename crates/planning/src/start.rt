@@ -30,12 +30,12 @@ fn going_at(found: Found, positions: usize, on: bool, standing: Standing) -> Pro
     }
 }
 
-// The same where the kept areas have so many positions in all: 9 is kept if these are too many.
+// The same where the kept areas have so many positions in all: 9 bars placing if these are too many.
 pub fn starting(found: Found, total: usize) -> Progress
     ensures { λ r. ⌜ r ≡ startingOf found total ⌝ }
 {
     if IMAGE_ROOM < total {
-        let nine = Standing::Kept {
+        let nine = Standing::Barred {
             number: 9,
             place: 0,
         };

@@ -4,10 +4,10 @@ ghost use Rattle.planning.specs.Plan.{endingOf, afterOf, steppedOf, stan
 use homes::Home;
 use sites::Line;
 
-// How placing stands: so many fixup rows are made; or a refusal is kept, to be given if no 7 or 8 follows.
+// How placing stands: so many fixup rows are made; or a refusal bars it, to be given if no 7 or 8 follows.
 pub enum Standing {
     Made { fixups: usize },
-    Kept { number: u32, place: usize },
+    Barred { number: u32, place: usize },
 }
 
 // Where group two is: how many areas, symbols and positions there are, where the next line begins, where the last record ended, how many T and R pairs there were, whether the reading goes on, how placing stands, and the home of the area of the last pair that was placed.
@@ -59,7 +59,7 @@ pub fn ending(g: Progress) -> Paired
             stop: g.stop,
             fixups: fixups,
         },
-        Standing::Kept { number, place } => Paired::Rejected {
+        Standing::Barred { number, place } => Paired::Rejected {
             number: number,
             at: place,
         },

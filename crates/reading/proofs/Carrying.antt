@@ -40,7 +40,7 @@ use Rattle.steps.specs.declared.pair.PairStep.{PairStep}
 use Rattle.steps.specs.declared.pair.PairStep.the-variants.{Ends, Takes}
 use Rattle.planning.specs.Plan.{endingOf, afterOf, steppedOf, standingIn, oneMore, refusedPair, lineFor, planOf, turnOf}
 use Rattle.planning.specs.declared.state.Standing.{Standing}
-use Rattle.planning.specs.declared.state.Standing.the-variants.{Made, Kept as Refused}
+use Rattle.planning.specs.declared.state.Standing.the-variants.{Made, Barred as Refused}
 use Rattle.planning.specs.declared.state.Progress.{Progress}
 use Rattle.planning.specs.declared.state.Paired.the-variants.{Rejected}
 use Rattle.planning.specs.declared.state.Turn.{Turn}

@@ -48,7 +48,7 @@ use Rattle.steps.specs.declared.pair.Body.the-variants.{Skipped, Placed}
 use Rattle.steps.specs.declared.pair.PairStep.{PairStep}
 use Rattle.steps.specs.declared.pair.PairStep.the-variants.{Ends, Takes}
 use Rattle.planning.specs.declared.state.Standing.{Standing}
-use Rattle.planning.specs.declared.state.Standing.the-variants.{Made, Kept}
+use Rattle.planning.specs.declared.state.Standing.the-variants.{Made, Barred}
 use Rattle.planning.specs.declared.state.Progress.{Progress}
 use Rattle.planning.specs.declared.state.Paired.{Paired}
 use Rattle.planning.specs.declared.state.Paired.the-variants.{All, Rejected}
@@ -62,10 +62,10 @@ use Rattle.planning.specs.declared.state.Plan.the-variants.{Leave, Place}
 pub stands-through : {r : place.Placed} {k x : ℕ} → r ≡ Through k x → Made k ≡ standingOf r
 stands-through e = rw e
 
-pub stands-stopped : {r : place.Placed} {n p : ℕ} → r ≡ Stopped n p → Kept n p ≡ standingOf r
+pub stands-stopped : {r : place.Placed} {n p : ℕ} → r ≡ Stopped n p → Barred n p ≡ standingOf r
 stands-stopped e = rw e
 
-pub stands-misfit : {r : place.Placed} → r ≡ Misfit → Kept 0 0 ≡ standingOf r
+pub stands-misfit : {r : place.Placed} → r ≡ Misfit → Barred 0 0 ≡ standingOf r
 stands-misfit e = rw e
 
 pub ruleset small = (needs, stands-through, stands-stopped, stands-misfit)
@@ -125,7 +125,7 @@ pub empty-no : (a b : ℕ) → (a ≡ 0 → ⊥) → false ≡ (eqb a 0 && eqb b
 empty-no a b e = rw (ne-eqb a 0 e)
 
 module _ {l : Line} {g : Progress} {bytes areas rows : List ℕ} (w : PlaceReady l g bytes areas rows) (ms es xs symbols vs fs : List ℕ) where
-  pub body-kept : {n p : ℕ} → g .standing ≡ Kept n p → {g′ : Progress} {u : Turn} → g′ ≡ standingIn g (g .home) (g .standing) → u ≡ afterOf g′
+  pub body-kept : {n p : ℕ} → g .standing ≡ Barred n p → {g′ : Progress} {u : Turn} → g′ ≡ standingIn g (g .home) (g .standing) → u ≡ afterOf g′
       → (Advances l g bytes ms es xs areas symbols vs fs rows u vs fs rows) × (CarriedBy (g .areas) areas fs u areas fs)
   body-kept e i j = (
     record { standing = g .standing; home = g .home; answered = j ∙ ap afterOf i; says = λ radix end. rw e; sound = w .sound; homed = w .homed },
@@ -142,7 +142,7 @@ module _ {l : Line} {g : Progress} {bytes areas rows : List ℕ} (w : PlaceReady
     where
       go : (radix end : ℕ) → l .bytes ≡ 0 → l .fragments ≡ 0 → (st : Standing) → stands st vs fs rows ≡ andThen (stands st vs fs rows) (λ s. pairOf l bytes ms es xs areas symbols (filledOf g 0 0) s radix end)
       go radix end b f (Made k) = sym (idle-pair l bytes ms es xs areas symbols (filledOf g 0 0) b f (stateOf vs fs rows k) radix end)
-      go radix end b f (Kept n p) = refl
+      go radix end b f (Barred n p) = refl
 
   pub body-made : {k : ℕ} → g .standing ≡ Made k → {x : ℕ} → x ≡ knownAt areas (l .area) → {q : Filled} → q ≡ filledOf g k x → {h : Home} → h ≡ homeAt areas (g .areas) (l .area) → {r : place.Placed} {vs′ fs′ rows′ : List ℕ}
       → PairPlaced (fitsIn l h bytes q rows) (pairIn l h bytes ms es xs areas symbols q (stateOf vs fs rows (q .fixups))) (q .known) vs fs rows r vs′ fs′ rows′ → ((j : ℕ) → getD fs′ j 0 < 256)
@@ -228,11 +228,11 @@ module _ (f : Form) (t : Tables) where
     where
       go : (s : Standing) → andThen (andThen (stands s vs ms rows) (λ s. fine s)) (λ s. fine (record { lines = g .lines; stop = g .stop; state = s })) ≡ toldTwo (endingWith s (g .lines) (g .stop)) vs ms rows
       go (Made k) = refl
-      go (Kept n p) = refl
+      go (Barred n p) = refl
 
 pub few-end : (areas : List ℕ) (na : ℕ) (s : Standing) (n stop : ℕ) → Sound areas na s → FewIn (endingWith s n stop)
 few-end areas na (Made k) n stop h = h .0
-few-end areas na (Kept x p) n stop h = tt
+few-end areas na (Barred x p) n stop h = tt
 
 -- the pairs at a place, by what the two lines there do
 module _ (ended : Bool) (f : Form) (text : List ℕ) (p : ℕ) where

@@ -45,7 +45,7 @@ use Rattle.tables.specs.declared.sizes.Sizes.{Sizes}
 use Rattle.tables.specs.declared.group.Found.{Found}
 use Rattle.tables.specs.declared.group.Listed.{Listed}
 use Rattle.tables.specs.declared.group.Listed.the-variants.{Done, Refused, TooLong}
-use Rattle.planning.specs.declared.state.Standing.the-variants.{Made, Kept}
+use Rattle.planning.specs.declared.state.Standing.the-variants.{Made, Barred}
 use Rattle.planning.specs.declared.state.Progress.{Progress}
 use Rattle.planning.specs.declared.state.Paired.{Paired}
 use Rattle.planning.specs.declared.state.Paired.the-variants.{All, Rejected}
@@ -140,7 +140,7 @@ placed-all t z e (fine n) (refused m p) = refl
 placed-all t z e (fine n) (fine s) = refl
 
 module _ (f : Form) (t : Tables) (ps : List (Taken the.Pair)) (d : Found) (z : ℕ) (ez : z ≡ total (t .areas)) (rows : List ℕ) where
-  whole-nine : 65536 < z → (vs ms : List ℕ) → wholeAt f t ps (d .stop) ≡ andThen (onward f t ps (goingAt d 0 (d .more) (Kept 9 0)) vs ms rows) (λ e. fine (wholeFrom t z e))
+  whole-nine : 65536 < z → (vs ms : List ℕ) → wholeAt f t ps (d .stop) ≡ andThen (onward f t ps (goingAt d 0 (d .more) (Barred 9 0)) vs ms rows) (λ e. fine (wholeFrom t z e))
   unfolding wholeAt onward room counted
   whole-nine h vs ms =
       let l : leb (total (t .areas)) 65536 ≡ false = lt-leb (total (t .areas)) 65536 (omega arith) in
@@ -164,14 +164,14 @@ module _ (f : Form) (t : Tables) (ps : List (Taken the.Pair)) (d : Found) (z : �
   never-fine (fine n) e h = let y : _≡_ {A = ℕ} 0 1 = cc in omega arith
   never-fine (refused n p) e h = let y : _≡_ {A = ℕ} 0 1 = cc in omega arith
 
-  fine-fits : (vs ms : List ℕ) (e : Ended) → fine e ≡ onward f t ps (goingAt d 0 (d .more) (Kept 9 0)) vs ms rows → ⊥
+  fine-fits : (vs ms : List ℕ) (e : Ended) → fine e ≡ onward f t ps (goingAt d 0 (d .more) (Barred 9 0)) vs ms rows → ⊥
   unfolding onward
   fine-fits vs ms e h = never-fine (fold fits 0 ps) e h
 
 -- the start, by whether the kept sizes are too large
 module _ (ended : Bool) (f : Form) (text : List ℕ) (d : Found) (xs ys : List ℕ) (t : Tables) (z : ℕ) (et : tablesIn xs (d .areas) ys (d .symbols) ≡ t) (ez : z ≡ total (t .areas)) (rows : List ℕ) where
   starts : (b : Bool) → ltb 65536 z ≡ b → Progress
-  starts b h = pick b (goingAt d 0 (d .more) (Kept 9 0)) (goingAt d z (d .more) (Made 0))
+  starts b h = pick b (goingAt d 0 (d .more) (Barred 9 0)) (goingAt d z (d .more) (Made 0))
 
   module _ (vs ms : List ℕ) where
     fresh-whole : (b : Bool) (h : ltb 65536 z ≡ b) → take (starts b h .positions) vs ≡ replicate (starts b h .positions) 0 → take (starts b h .positions) ms ≡ replicate (starts b h .positions) 0
@@ -181,7 +181,7 @@ module _ (ended : Bool) (f : Form) (text : List ℕ) (d : Found) (xs ys : List �
     fresh-whole true h bv bm =
         let ps = pairsFrom ended f text (d .next) (d .more) in
         whole-nine f t ps d z ez rows (ltb-true 65536 z h) [] []
-        ∙ ap (λ (x : Tables). andThen (onward f x ps (goingAt d 0 (d .more) (Kept 9 0)) [] [] rows) (λ e. fine (wholeFrom t z e))) (sym et)
+        ∙ ap (λ (x : Tables). andThen (onward f x ps (goingAt d 0 (d .more) (Barred 9 0)) [] [] rows) (λ e. fine (wholeFrom t z e))) (sym et)
     fresh-whole false h bv bm =
         let ps = pairsFrom ended f text (d .next) (d .more) in
         whole-placed f t ps d z ez rows (ltb-false 65536 z h) (take z vs) (take z ms) bv bm
@@ -201,7 +201,7 @@ module _ {text : List ℕ} (d : Found) {xs : List ℕ} {s : Sizes} (u : Begun te
       none-yet : noHome (d .areas) ≡ homeAt xs (d .areas) (d .areas)
       none-yet = home-past xs (d .areas) (d .areas) refl (u .areas-low) (omega arith)
 
-      go : (b : Bool) → ltb 65536 (s .total) ≡ b → Ready text xs (pick b (goingAt d 0 (d .more) (Kept 9 0)) (goingAt d (s .total) (d .more) (Made 0)))
+      go : (b : Bool) → ltb 65536 (s .total) ≡ b → Ready text xs (pick b (goingAt d 0 (d .more) (Barred 9 0)) (goingAt d (s .total) (d .more) (Made 0)))
       go true k = record { inside = u .inside; low = omega arith; areas-low = u .areas-low; symbols-low = u .symbols-low; sound = tt; homed = none-yet }
       go false k = record { inside = u .inside; low = omega arith; areas-low = u .areas-low; symbols-low = u .symbols-low; sound = (omega arith, omega (arith, u .sizes .total-is, ltb-false 65536 (s .total) k)); homed = none-yet }
 
@@ -221,7 +221,7 @@ blank-small d z h = let l : ltb 65536 z ≡ false = le-ltb 65536 z (omega arith)
 pub blank-large : {text xs : List ℕ} {d : Found} {s : Sizes} → Begun text xs d s → Blank (startingOf d (s .total) .positions) (replicate 65536 0)
 blank-large {text} {xs} {d} {s} u = go (ltb 65536 (s .total)) refl
   where
-    go : (b : Bool) → ltb 65536 (s .total) ≡ b → Blank (pick b (goingAt d 0 (d .more) (Kept 9 0)) (goingAt d (s .total) (d .more) (Made 0)) .positions) (replicate 65536 0)
+    go : (b : Bool) → ltb 65536 (s .total) ≡ b → Blank (pick b (goingAt d 0 (d .more) (Barred 9 0)) (goingAt d (s .total) (d .more) (Made 0)) .positions) (replicate 65536 0)
     go true k = blank-of 0 65536 (omega arith)
     go false k = blank-of (s .total) 65536 (ltb-false 65536 (s .total) k)
 
@@ -237,7 +237,7 @@ module _ {ended : Bool} {f : Form} {text : List ℕ} (d : Found) {xs ys : List �
   started : g .areas ≡ d .areas
   started = ap (λ (x : Progress). x .areas) e ∙ go (ltb 65536 (s .total))
     where
-      go : (b : Bool) → pick b (goingAt d 0 (d .more) (Kept 9 0)) (goingAt d (s .total) (d .more) (Made 0)) .areas ≡ d .areas
+      go : (b : Bool) → pick b (goingAt d 0 (d .more) (Barred 9 0)) (goingAt d (s .total) (d .more) (Made 0)) .areas ≡ d .areas
       go true = refl
       go false = refl
 

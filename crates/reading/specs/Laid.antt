@@ -32,7 +32,7 @@ use Rattle.reading.specs.declared.Counts.{Counts}
 use Rattle.tables.specs.declared.sizes.Sizes.{Sizes}
 use Rattle.tables.specs.declared.group.Found.{Found}
 use Rattle.planning.specs.declared.state.Standing.{Standing}
-use Rattle.planning.specs.declared.state.Standing.the-variants.{Made, Kept}
+use Rattle.planning.specs.declared.state.Standing.the-variants.{Made, Barred}
 use Rattle.planning.specs.declared.state.Progress.{Progress}
 use Rattle.planning.specs.declared.state.Paired.{Paired}
 use Rattle.planning.specs.declared.state.Paired.the-variants.{All, Rejected}

@@ -30,7 +30,7 @@ use Rattle.steps.specs.declared.pair.Body.the-variants.{Skipped, Placed}
 use Rattle.steps.specs.declared.pair.PairStep.{PairStep}
 use Rattle.steps.specs.declared.pair.PairStep.the-variants.{Ends, Takes}
 use Rattle.planning.specs.declared.state.Standing.{Standing}
-use Rattle.planning.specs.declared.state.Standing.the-variants.{Made, Kept as Refused}
+use Rattle.planning.specs.declared.state.Standing.the-variants.{Made, Barred as Refused}
 use Rattle.planning.specs.declared.state.Progress.{Progress}
 use Rattle.planning.specs.declared.state.Paired.{Paired}
 use Rattle.planning.specs.declared.state.Paired.the-variants.{All, Rejected}

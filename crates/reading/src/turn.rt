@@ -30,11 +30,11 @@ fn standing_of(r: Placed) -> Standing
 {
     match r {
         Placed::Done(k, _) => Standing::Made { fixups: k },
-        Placed::Stopped(n, p) => Standing::Kept {
+        Placed::Stopped(n, p) => Standing::Barred {
             number: n,
             place: p,
         },
-        Placed::Misfit => Standing::Kept {
+        Placed::Misfit => Standing::Barred {
             number: 0,
             place: 0,
         },
@@ -86,7 +86,7 @@ fn is_empty(line: Line) -> bool
     false
 }
 
-// A pair placed, if no refusal is kept. An empty one changes nothing, so its area is not looked for.
+// A pair placed, if no refusal bars it. An empty one changes nothing, so its area is not looked for.
 fn place_body(
     line: Line,
     going: Progress,
