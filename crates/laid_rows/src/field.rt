@@ -56,14 +56,7 @@ fn number_at(bs: &[u8], site: u32, big: bool, three: bool) -> u64
 }
 
 // A fragment's bytes over the content from its site on.
-pub(crate) fn lay_field(
-    part: &mut [u8],
-    bs: &[u8],
-    mode: u32,
-    site: u32,
-    big: bool,
-    to: Address,
-)
+pub(crate) fn lay_field(part: &mut [u8], bs: &[u8], mode: u32, site: u32, big: bool, to: Address)
     ensures { λ _. ⌜ now (part .exit) ≡ sets (now (part .entry)) site (fieldBy big site (now (bs .entry)) mode (toldAddress to)) ⌝ }
 {
     let three = is_three(mode);
