@@ -8,8 +8,8 @@ use rooms::FIXUP_ROOM;
 use rooms::IMAGE_ROOM;
 use rooms::SYMBOL_ROOM;
 
-mod answers;
 mod listed;
+mod refusals;
 
 // A refusal of the older text, of the newer, or of both; or how many rows there are.
 pub enum Told {
@@ -40,7 +40,7 @@ fn read_newer(
     ensures { λ r. ⌜ NewerRead (now (older .entry)) (told first) (held (now (p .entry)) (now (f .entry)) (now (v .entry)) (now (k .entry)) (now (xs .entry))) (now (newer .entry)) (held (now (q .entry)) (now (g .entry)) (now (w .entry)) (now (l .entry)) (now (ys .entry))) (now (list .entry)) r (held (now (q .exit)) (now (g .exit)) (now (w .exit)) (now (l .exit)) (now (ys .exit))) (now (list .exit)) ⌝ }
 {
     let second = read_ended(newer, q, g, w, l, ys);
-    answers::answered(
+    refusals::answered(
         older,
         p,
         f,

@@ -3,7 +3,7 @@ use Rattle.changes_of.proofs.read_newer.Statement.{statement}
 use Rattle.changes_of.proofs.read_newer.Tie as tie
 use Rattle.changes_of.proofs.read_newer.Reads as reads
 use Rattle.changes_of.proofs.read_newer.Lts as lts
-use Rattle.changes_of.proofs.answers.answered.Reads as answered-reads
+use Rattle.changes_of.proofs.refusals.answered.Reads as answered-reads
 use Rattle.reading.proofs.read_ended.Reads as read-ended-reads
 
 read-ended-requires : tie.Need-read-ended-requires

@@ -1,9 +1,9 @@
 use Rattle.changes_of.proofs.Answers.{boths}
-use Rattle.changes_of.proofs.answers.answered.Statement.{statement}
-use Rattle.changes_of.proofs.answers.answered.Tie as tie
-use Rattle.changes_of.proofs.answers.answered.Reads as reads
-use Rattle.changes_of.proofs.answers.answered.Lts as lts
-use Rattle.changes_of.proofs.answers.finished.Reads as finished-reads
+use Rattle.changes_of.proofs.refusals.answered.Statement.{statement}
+use Rattle.changes_of.proofs.refusals.answered.Tie as tie
+use Rattle.changes_of.proofs.refusals.answered.Reads as reads
+use Rattle.changes_of.proofs.refusals.answered.Lts as lts
+use Rattle.changes_of.proofs.refusals.finished.Reads as finished-reads
 
 enum-known-first : tie.Need-enum-known-first
 enum-known-first c = search boths

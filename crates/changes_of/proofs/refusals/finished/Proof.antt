@@ -1,8 +1,8 @@
 use Rattle.changes_of.proofs.Answers.{finishes}
-use Rattle.changes_of.proofs.answers.finished.Statement.{statement}
-use Rattle.changes_of.proofs.answers.finished.Tie as tie
-use Rattle.changes_of.proofs.answers.finished.Reads as reads
-use Rattle.changes_of.proofs.answers.finished.Lts as lts
+use Rattle.changes_of.proofs.refusals.finished.Statement.{statement}
+use Rattle.changes_of.proofs.refusals.finished.Tie as tie
+use Rattle.changes_of.proofs.refusals.finished.Reads as reads
+use Rattle.changes_of.proofs.refusals.finished.Lts as lts
 use Rattle.changes_of.proofs.listed.fill.Reads as fill-reads
 
 enum-told : tie.Need-enum-told
