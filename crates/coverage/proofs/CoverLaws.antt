@@ -41,7 +41,7 @@ use Rattle.record_rows.specs.ReadPairs as paper
 use Rattle.record_rows.specs.ReadPairs.{roomy}
 use Rattle.records.specs.Told.{held}
 use Rattle.records.specs.Told as rows
-use Rattle.records.specs.Walking.{IsRead}
+use Rattle.admits.specs.Admits.{IsRead}
 use Rattle.records.specs.declared.PairsAnswer.{PairsAnswer}
 use Rattle.records.specs.declared.PairsAnswer.the-variants as pairs
 use Rattle.record_parts.specs.Parts.{placedIn, placedOf}

@@ -30,7 +30,7 @@ use Rattle.record_rows.specs.RecordRows.{contentBytes, fragmentRows, pairCount,
 use Rattle.record_rows.proofs.Roomy.{few-records}
 use Rattle.records.specs.Told.{held}
 use Rattle.records.specs.Told as rows
-use Rattle.records.specs.Walking.{IsRead}
+use Rattle.admits.specs.Admits.{IsRead}
 use Rattle.records.specs.declared.PairsAnswer.{PairsAnswer}
 use Rattle.records.specs.declared.PairsAnswer.the-variants as pairs
 use Rattle.records.specs.declared.PairCounts.{PairCounts}

@@ -2,7 +2,7 @@
 ghost use mathlib.Core.Path.{_≡_};
 ghost use Prim.Native.Nat.{_≤_};
 ghost use lib.ListN.{length};
-ghost use Rattle.records.specs.Walking.{IsRead};
+ghost use Rattle.admits.specs.Admits.{IsRead};
 ghost use Rattle.one_position.specs.Explain.{Rowed};
 ghost use Rattle.placed_code.specs.Code.{CodeIs, ReadPlaced};
 use crate::found::tables_of;
