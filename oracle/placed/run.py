@@ -4,6 +4,7 @@
 run.py generated DRIVER SEED COUNT   generated modules, fit and unfit
 run.py real DRIVER SEED FOLDER       the real modules of a folder
 run.py linked DRIVER 0 FOLDER        those that are placed, against SDCC's linker
+run.py program PLACE_AT EACH FOLDER  each so many-th of those through the program place_at
 """
 import collections
 import os
@@ -242,8 +243,48 @@ def held_to(seen, name, module, areas, symbols, image, masks, found):
                 print("different: %s area %d position %04X: linked %s, placed %02X" % (name, home, j, byte, mine))
 
 
+def listed(module, areas, fields, lines):
+    """The bytes of a listing, or None where a line is not as the rule has it."""
+    image, home = bytearray(), -1
+    for line in lines:
+        words = line.split(" ")
+        if words[0] == "area":
+            home += 1
+            size = module.areas[module.kept[home]][1]
+            right = words[3:] == [str(home), "at", "%016X" % areas[home], "size", str(size)]
+        elif words[0] == "fix":
+            to, n = fields[home, int(words[1], 16) - areas[home]]
+            right = words[2:] == [str(n), "refers", "%016X" % to, "target", "%016X" % to]
+        else:
+            right = words[0] == "%016X" % (areas[home] + len(image) - module.base[module.kept[home]]) and len(words) <= 9
+            image += bytes(int(word, 16) for word in words[1:])
+        if not right:
+            return None
+    return bytes(image)
+
+
+def program(seen, place_at, each, folder):
+    """Modules that are placed, through the program: its listing and its raw bytes."""
+    fit = [text for _, text in real(folder) if Module(text).fits() and Module(text).kept]
+    for text in fit[::each]:
+        module = Module(text)
+        areas, symbols = bases(module)
+        areas = [areas[i] for i in module.kept]
+        words = [word for i, at in enumerate(areas) for word in ("area", str(i), "%X" % at)]
+        words += [word for (name, ref, _, _), at in zip(module.symbols, symbols) if ref for word in ("symbol", name, "%x" % at)]
+        image, fields = module.placed(areas, symbols)
+        raw = subprocess.run([place_at, "-b"] + words, input=text, capture_output=True, check=True)
+        lines = subprocess.run([place_at] + words, input=text, capture_output=True, check=True)
+        seen["modules"] += 1
+        seen["bytes"] += len(image)
+        told = lines.stdout.decode().splitlines()
+        seen["fixups"] += sum(line.startswith("fix ") for line in told)
+        if raw.stderr or lines.stderr or raw.stdout != image or listed(module, areas, fields, told) != image:
+            differs(seen, text, raw, lines)
+
+
 def main(words):
-    if len(words) != 4 or words[0] not in ("generated", "real", "linked"):
+    if len(words) != 4 or words[0] not in ("generated", "real", "linked", "program"):
         sys.exit(__doc__)
     seen, r = collections.Counter(), random.Random(int(words[2]))
     if words[0] == "generated":
@@ -254,8 +295,10 @@ def main(words):
             left -= len(texts)
     elif words[0] == "real":
         run(seen, words[1], ((text, case(r, text)) for _, text in real(words[3])))
-    else:
+    elif words[0] == "linked":
         linked(seen, words[1], words[3])
+    else:
+        program(seen, words[1], int(words[2]), words[3])
     for what, n in sorted(seen.items()):
         print("%s: %d %s" % (words[0], n, what))
     sys.exit(1 if seen["DIFFERENT"] else 0)
