@@ -23,8 +23,8 @@ pub(crate) fn help() {
           ADDRESS BYTE ..                               its bytes, eight a row; 00 where no line writes\n\
           fix ADDRESS BYTES refers ADDRESS target ADDRESS   bytes filled in: how many, the address that they refer to, and the\n\
                                                         one that they lead to; target refused 14: they run past the area\n\
-          refused NUMBER at PLACE                       nothing is placed; 25: the module has a fragment that is no plain\n\
-                                                        address of 16 or 24 bits, or two that write a common byte\n\
+          refused NUMBER at PLACE                       nothing is placed; 25: a fragment is no plain address of 16 or 24\n\
+                                                        bits, or a byte is written twice\n\
           \n\
           -b writes the bytes of all areas with code, one area behind the other, and nothing else.\n\
           An area or a symbol without an address is told on standard error, and so is one that is not there, and a module that is\n\
