@@ -128,7 +128,7 @@ typedef struct {
 /* The room for a list that no two modules fill, in elements. */
 #define GATECOBALT_CHANGES (135232 * GATECOBALT_CHANGE_WIDTH)
 
-/* What placing tells. A refusal: its number (1 to 13, or 25 for a module outside the conditions under which
+/* What placing tells. A refusal: its number (1 to 13, 18, or 25 for a module outside the conditions under which
  * code is placed) and place, and no byte has changed. Otherwise refusal is 0, and bytes is how many were placed. */
 typedef struct {
     uint32_t refusal;
@@ -317,7 +317,8 @@ gatecobalt_written gatecobalt_write(bool big, uint32_t width, const uint8_t *tex
 /* A module's code at chosen addresses, as a linker places it, into a buffer of GATECOBALT_VALUES bytes or more:
  * those of all kept areas, one behind the other. areas has the address of each kept area by its id, symbols that of
  * each outside symbol by its index in the symbol table; what stands there for a Def is not looked at. 1 for a
- * shorter buffer or fewer addresses than kept areas or symbols. It takes under 1 MiB of stack and no heap. */
+ * shorter buffer or fewer addresses than kept areas or symbols. A text that is stopped is placed as far as it was
+ * read. It takes under 1 MiB of stack and no heap. */
 gatecobalt_placed gatecobalt_place(const uint8_t *text, size_t text_length, const uint64_t *areas,
     size_t areas_length, const uint64_t *symbols, size_t symbols_length, uint8_t *out, size_t out_length);
 
