@@ -22,11 +22,6 @@ pub(crate) struct Asked {
 // Positions of all images together.
 type Image = [u8; IMAGE_ROOM];
 
-// No bytes yet.
-fn empty_image() -> Image {
-    [0u8; IMAGE_ROOM]
-}
-
 // No fixups yet.
 fn empty_fixups() -> [u32; FIXUP_ROOM] {
     [0u32; FIXUP_ROOM]
@@ -160,7 +155,7 @@ fn place_read(
     ) {
         return;
     }
-    let mut out = empty_image();
+    let mut out = io::large_buffer();
     match code_at(text, &addresses, &mut out) {
         Placed::Refusal { number, place } => refused(number, place, asked.raw),
         Placed::Done { bytes } => write(
@@ -184,8 +179,8 @@ fn read(
     symbols: &mut [u32; SYMBOL_ROOM],
     fixups: &mut [u32; FIXUP_ROOM],
 ) -> Answer {
-    let mut values = empty_image();
-    let mut masks = empty_image();
+    let mut values = io::large_buffer();
+    let mut masks = io::large_buffer();
     reading::read_ended(text, areas, symbols, &mut values, &mut masks, fixups)
 }
 
