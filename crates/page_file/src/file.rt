@@ -38,7 +38,8 @@ fn text_of(s: Sink, out: &mut Buffer, t: Totals, name: &[u8], text: &[u8]) -> Ta
             verdict,
             counted,
         } => {
-            let s1 = page_row::read_row(s, out, name, own.figures, kinds, verdict, counted);
+            let f = own.figures;
+            let s1 = page_row::read_row(s, out, name, f, kinds, verdict, counted);
             let s2 = verdict_words::tell_unless_whole(s1, out, name, verdict, counted);
             let sum = totals::add(t, own);
             Tally {

@@ -29,13 +29,17 @@ pub(crate) enum Said {
     },
 }
 
-// What a reading accepted: its counts, verdict and word, its fixups by class and its known bits.
-struct Accepted {
-    counts: Counts,
-    verdict: Verdict,
-    counted: Counted,
-    classes: Classes,
-    known: u64,
+// A refusal; or how many positions there are, how many no line writes, and how many there are of each kind.
+enum Mapped {
+    Refused {
+        number: u32,
+        place: usize,
+    },
+    Told {
+        positions: usize,
+        unwritten: usize,
+        kinds: Kinds,
+    },
 }
 
 // Whether no byte is left.
@@ -59,42 +63,74 @@ fn long(n: usize) -> u64 {
     n as u64
 }
 
-// The module's own totals.
-fn own_totals(a: Accepted, positions: usize, unwritten: usize) -> Totals {
-    let counts = a.counts;
-    let f = Figures {
+// The figures of a module that is read.
+fn figures_of(counts: Counts, known: u64, positions: usize, unwritten: usize) -> Figures {
+    Figures {
         kept: long(counts.kept),
         positions: long(positions),
         unwritten: long(unwritten),
-        known: a.known,
+        known: known,
         fixups: long(counts.fixups),
-    };
-    totals::module(f, a.classes, is_finished(a.verdict), is_unequal(a.counted))
+    }
 }
 
-// A text that a reading accepted, with its masks and the room for a map.
-fn mapped(text: &[u8], a: Accepted, masks: &Image, map: &mut Image) -> Said {
+// The positions of a text by kind, with their masks and the room for a map.
+fn map_in(text: &[u8], masks: &Image, map: &mut Image) -> Mapped {
     match coverage::cover(text, map) {
-        Covered::Refused { number, place } => Said::Refused {
+        Covered::Refused { number, place } => Mapped::Refused {
             number: number,
             place: place,
         },
         Covered::Told {
             positions,
             unwritten,
-        } => Said::Read {
-            own: own_totals(a, positions, unwritten),
-            kinds: kinds::kinds_in(masks, map, positions),
-            verdict: a.verdict,
-            counted: a.counted,
-        },
+        } => {
+            let kinds = kinds::kinds_in(masks, map, positions);
+            Mapped::Told {
+                positions: positions,
+                unwritten: unwritten,
+                kinds: kinds,
+            }
+        }
     }
 }
 
 // The same with a map of its own.
-fn accepted(text: &[u8], a: Accepted, masks: &Image) -> Said {
+fn map_of(text: &[u8], masks: &Image) -> Mapped {
     let mut map = empty_image();
-    mapped(text, a, masks, &mut map)
+    map_in(text, masks, &mut map)
+}
+
+// A module that is read, with its fixups by class and its known bits.
+fn accepted(
+    text: &[u8],
+    masks: &Image,
+    counts: Counts,
+    verdict: Verdict,
+    counted: Counted,
+    classes: Classes,
+    known: u64,
+) -> Said {
+    match map_of(text, masks) {
+        Mapped::Refused { number, place } => Said::Refused {
+            number: number,
+            place: place,
+        },
+        Mapped::Told {
+            positions,
+            unwritten,
+            kinds,
+        } => {
+            let f = figures_of(counts, known, positions, unwritten);
+            let own = totals::module(f, classes, is_finished(verdict), is_unequal(counted));
+            Said::Read {
+                own: own,
+                kinds: kinds,
+                verdict: verdict,
+                counted: counted,
+            }
+        }
+    }
 }
 
 // A text, with the buffers of a reading.
@@ -116,14 +152,9 @@ fn say_in(
             verdict,
             counted,
         } => {
-            let a = Accepted {
-                counts: counts,
-                verdict: verdict,
-                counted: counted,
-                classes: figures::classes_in(fixups, counts.fixups),
-                known: figures::known_in(areas, counts.areas),
-            };
-            accepted(text, a, masks)
+            let classes = figures::classes_in(fixups, counts.fixups);
+            let known = figures::known_in(areas, counts.areas);
+            accepted(text, masks, counts, verdict, counted, classes, known)
         }
     }
 }
