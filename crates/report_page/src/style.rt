@@ -28,12 +28,12 @@ fn rows(s: Sink, out: &mut Buffer) -> Sink {
         out,
         b".t, .c, .m { display: grid; column-gap: .7em; align-items: center; padding: 1px 0 1px .6em; border-left: 5px solid #fff; break-inside: avoid }\n\
           .t { grid-template-columns: 3fr 6fr } p.t { display: block; padding: 0; border: 0 }\n\
-          .c, .m { grid-template-columns: minmax(8em, 3fr) minmax(11em, 3fr) repeat(7, 5.5em) minmax(8em, 3fr); border-bottom: 1px solid #bbb }\n\
+          .c, .m { grid-template-columns: minmax(8em, 5fr) minmax(10em, 3fr) repeat(7, 5.5em) minmax(8em, 3fr); border-bottom: 1px solid #bbb }\n\
           .c { position: sticky; top: 0; background: #fff; border-bottom: 2px solid #000; font-weight: bold }\n\
           .t, .w { border-left: 5px double #000 } .m b { font-weight: normal } .m.w b { font-weight: bold }\n\
           .c i, .m i { text-align: right } .c i:nth-child(10), .m i:nth-child(10) { text-align: left } bdi { overflow-wrap: anywhere }\n\
-          svg { height: 15px; border: 1px solid #000; box-sizing: border-box } .b { width: 100% }\n\
-          .l span { display: inline-block; margin-right: 1.2em } .l svg { width: 34px; vertical-align: -3px }\n",
+          svg { height: 13px; outline: 1px solid #000; outline-offset: -1px } .b { width: 100% }\n\
+          .l span { display: inline-block; margin-right: 1.2em } .l svg { width: 34px; vertical-align: -2px }\n",
     )
 }
 
@@ -44,7 +44,7 @@ fn paper(s: Sink, out: &mut Buffer) -> Sink {
         out,
         b"@page { size: landscape; margin: 12mm }\n\
           @media print {\n\
-          body { margin: 0; font-size: 9px } .c { display: none } .c, .m { grid-template-columns: 4fr 3fr repeat(7, 7.4em) 4fr }\n\
+          body { margin: 0; font-size: 9px } .c { display: none } .c, .m { grid-template-columns: 5fr 3fr repeat(7, 7.4em) 3fr }\n\
           .m i:nth-child(3)::before { content: 'kept ' } .m i:nth-child(4)::before { content: 'positions ' }\n\
           .m i:nth-child(5)::before { content: 'known ' } .m i:nth-child(6)::before { content: 'partly ' }\n\
           .m i:nth-child(7)::before { content: 'relocated ' } .m i:nth-child(8)::before { content: 'unwritten ' }\n\
@@ -61,7 +61,7 @@ fn patterns(s: Sink, out: &mut Buffer) -> Sink {
     sink::put(
         s,
         out,
-        b"<svg style='position: absolute; width: 0; height: 0; border: 0'><defs>\n\
+        b"<svg style='position: absolute; width: 0; height: 0; outline: 0'><defs>\n\
           <pattern id='k' width='4' height='4' patternUnits='userSpaceOnUse'><rect width='4' height='4' fill='#1f4e79'/></pattern>\n\
           <pattern id='p' width='6' height='6' patternUnits='userSpaceOnUse'><rect width='6' height='6' fill='#ffe2b8'/><path d='M-1 1l2-2M0 6l6-6M5 7l2-2' stroke='#a04000' stroke-width='1.5'/></pattern>\n\
           <pattern id='r' width='5' height='5' patternUnits='userSpaceOnUse'><rect width='5' height='5' fill='#e2f3e2'/><circle cx='2.5' cy='2.5' r='1.2' fill='#1b6b2f'/></pattern>\n\
@@ -75,7 +75,7 @@ fn headings(s: Sink, out: &mut Buffer) -> Sink {
     sink::put(
         s,
         out,
-        b"<div class='a'><h2>What needs a person</h2><p>Modules that are refused, stopped or not equal. The command list --why shows the line at which one came to a halt.</p></div>\n\
+        b"<div class='a'><h2>What needs a person</h2><p>What is refused, stopped or not equal stands here. The command list --why shows the line at which a module came to a halt.</p></div>\n\
           <div class='l'><h2>All modules</h2><p>Each bar shows the positions of a module's kept areas to scale:\n\
           <span><svg><rect width='34' height='13' fill='url(#k)'/></svg> known (full, blue)</span>\n\
           <span><svg><rect width='34' height='13' fill='url(#p)'/></svg> partly known (striped, orange)</span>\n\
