@@ -6,9 +6,9 @@ use libc::STDOUT_FILENO;
 fn usage() -> bool {
     io::write_all(
         STDOUT_FILENO,
-        b"usage: report [--named] <NAMES\n\
+        b"usage: report [--named] [--page] <NAMES\n\
           Reports on object modules, whose names come from standard input, one a line, by the ended reading. With --named\n\
-          each name is followed by a line with the name under which it is shown.\n\
+          each name is followed by a line with the name under which it is shown. With --page the report is one HTML page.\n\
           \n\
           NAME: kept N positions N unwritten N known N fixups N addr19 N addr11 N addr24 N addr16 N byte N VERDICT\n\
           NAME: refused NUMBER at PLACE\n\
@@ -36,6 +36,6 @@ pub(crate) fn tell_unknown(i: usize) {
     console::tell_option(i);
     io::write_all(
         STDERR_FILENO,
-        b"usage: report [--named] <NAMES, or report --help\n",
+        b"usage: report [--named] [--page] <NAMES, or report --help\n",
     );
 }

@@ -8,18 +8,27 @@ use sink::Buffer;
 use sink::Sink;
 use totals::Totals;
 
-// What waits to be written and the totals, where the input is, how many names were taken, and whether each has a second line.
+// What waits to be written and the totals, where the input is, how many names were taken, whether each has a second line, and whether a page is asked for.
 struct Going {
     tally: Tally,
     cursor: Cursor,
     names: u64,
     pairs: bool,
+    page: bool,
 }
 
 // How it goes on: with the next line, or not.
 enum Turn {
     On(Going),
     Done(Tally),
+}
+
+// What is written of one file: a line, or a row of the page.
+fn told(page: bool, s: Sink, out: &mut Buffer, t: Totals, file: &[u8], shown: &[u8]) -> Tally {
+    if page {
+        return page_file::page_file(s, out, t, file, shown);
+    }
+    report_lines::report_file(s, out, t, file, shown)
 }
 
 // One name more, shown under its own or another one, unless there are too many.
@@ -29,22 +38,32 @@ fn one(g: Going, out: &mut Buffer, file: &[u8], shown: &[u8], next: Cursor) -> T
     let t = tally.totals;
     let names = g.names;
     if !totals::takes_more(names) {
-        return Turn::Done(too_many(s, t, out));
+        return Turn::Done(too_many(g.page, s, t, out));
     }
     Turn::On(Going {
-        tally: report_lines::report_file(s, out, t, file, shown),
+        tally: told(g.page, s, out, t, file, shown),
         cursor: next,
         names: std::num::wrapping_add_u64(names, 1),
         pairs: g.pairs,
+        page: g.page,
     })
 }
 
 // The totals as they stood, behind 17.
-fn too_many(s: Sink, t: Totals, out: &mut Buffer) -> Tally {
+fn too_many(page: bool, s: Sink, t: Totals, out: &mut Buffer) -> Tally {
     Tally {
-        sink: report_lines::over(s, out),
+        sink: over(page, s, out),
         totals: t,
     }
+}
+
+// 17, as a line or in the page; standard error is told too.
+fn over(page: bool, s: Sink, out: &mut Buffer) -> Sink {
+    if page {
+        let u = page_row::over_row(s, out);
+        return console::tell(u, out, b"standard input", b"refused 17 at 0");
+    }
+    report_lines::over(s, out)
 }
 
 // How a name begins that is longer than a file's name can be.
@@ -80,13 +99,16 @@ fn one_as(g: Going, out: &mut Buffer, file: &[u8], shown: &Name, n: usize, next:
     one(g, out, file, sink::first_bytes(shown, n), next)
 }
 
-// Standard input cannot be read.
-fn failed(tally: Tally, out: &Buffer) -> Tally {
-    let s = tally.sink;
-    let t = tally.totals;
+// Standard input cannot be read, which the page tells too.
+fn failed(page: bool, tally: Tally, out: &mut Buffer) -> Tally {
+    let s = console::complain(tally.sink, out, b"standard input");
     Tally {
-        sink: console::complain(s, out, b"standard input"),
-        totals: t,
+        sink: if page {
+            page_row::failed_row(s, out)
+        } else {
+            s
+        },
+        totals: tally.totals,
     }
 }
 
@@ -100,7 +122,7 @@ fn second(g: Going, out: &mut Buffer, block: &mut Block, file: &[u8], next: Curs
         Line::End => one(g, out, file, file, next),
         Line::Failed => {
             let tally = g.tally;
-            Turn::Done(failed(tally, out))
+            Turn::Done(failed(g.page, tally, out))
         }
     }
 }
@@ -136,9 +158,10 @@ fn next_turn(g: Going, out: &mut Buffer, block: &mut Block, name: &mut Name) -> 
             cursor: next,
             names: g.names,
             pairs: g.pairs,
+            page: g.page,
         }),
         Line::End => Turn::Done(tally),
-        Line::Failed => Turn::Done(failed(tally, out)),
+        Line::Failed => Turn::Done(failed(g.page, tally, out)),
     }
 }
 
@@ -160,9 +183,14 @@ fn all(g: Going, out: &mut Buffer, block: &mut Block, name: &mut Name) -> Tally 
     now.tally
 }
 
+// A block of zeros: made by itself, so that no proof has them in sight.
+fn empty_block() -> Block {
+    [0; 65536]
+}
+
 // What the lines of standard input name, and the totals then.
-pub(crate) fn named(s: Sink, out: &mut Buffer, pairs: bool) -> Tally {
-    let mut block = [0u8; 65536];
+pub(crate) fn named(s: Sink, out: &mut Buffer, pairs: bool, page: bool) -> Tally {
+    let mut block = empty_block();
     let mut name = [0u8; 4096];
     let tally = Tally {
         sink: s,
@@ -173,6 +201,7 @@ pub(crate) fn named(s: Sink, out: &mut Buffer, pairs: bool) -> Tally {
         cursor: name_lines::start(),
         names: 0,
         pairs: pairs,
+        page: page,
     };
     all(g, out, &mut block, &mut name)
 }

@@ -7,10 +7,10 @@ use Rattle.report_run.proofs.options.asked.Lts as lts
 use Rattle.report_run.proofs.options.word_at.Reads as word-at-reads
 
 abbrev Inv-loop : tie.InvT-loop
-Inv-loop count pairs₀ i₀ pairs i = Unit {0}
+Inv-loop count pairs₀ page₀ i₀ pairs page i = Unit {0}
 
 abbrev μ-loop : tie.MeasureT-loop
-μ-loop count pairs₀ i₀ pairs i = count - i
+μ-loop count pairs₀ page₀ i₀ pairs page i = count - i
 
 loop-holds : tie.Need-loop-holds Inv-loop μ-loop
 loop-holds c = search needs
@@ -24,11 +24,14 @@ enum-told c = search needs
 enum-told-2 : tie.Need-enum-told-2 Inv-loop μ-loop
 enum-told-2 c = search needs
 
+enum-told-3 : tie.Need-enum-told-3 Inv-loop μ-loop
+enum-told-3 c = search needs
+
 returns : tie.Need-returns Inv-loop μ-loop
 returns c = search needs
 
-enum-told-3 : tie.Need-enum-told-3 Inv-loop μ-loop
-enum-told-3 c = search needs
+enum-told-4 : tie.Need-enum-told-4 Inv-loop μ-loop
+enum-told-4 c = search needs
 
 returns-2 : tie.Need-returns-2 Inv-loop μ-loop
 returns-2 c = search needs
@@ -55,8 +58,9 @@ asked-spec =
     word-at-requires
     enum-told
     enum-told-2
-    returns
     enum-told-3
+    returns
+    enum-told-4
     returns-2
     add-i
     loop-less
