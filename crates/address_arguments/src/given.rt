@@ -3,7 +3,7 @@ use alike::same_name;
 use numbers::Num;
 
 // An address for the kept area of an id, or for the outside symbol that the second argument names; or the words are wrong.
-#[derive(Drop)]
+#[derive(Clone, Copy)]
 pub(crate) enum Given {
     Area { id: u32, address: u64 },
     Symbol { address: u64 },
@@ -11,14 +11,14 @@ pub(crate) enum Given {
 }
 
 // What a word gives: an address, or none.
-#[derive(Drop)]
+#[derive(Clone, Copy)]
 enum Address {
     Is(u64),
     None,
 }
 
 // What the first of three words says.
-#[derive(Drop)]
+#[derive(Clone, Copy)]
 enum Kind {
     Area,
     Symbol,

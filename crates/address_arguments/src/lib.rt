@@ -1,4 +1,6 @@
 // The addresses that the program's arguments choose, three words each: `area ID ADDRESS` for a kept area, `symbol NAME ADDRESS` for an outside symbol.
+#![tactic(auto)]
+
 mod given;
 mod missing;
 mod noted;

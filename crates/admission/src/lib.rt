@@ -1,4 +1,6 @@
 // Whether a text is admitted: the answer's type, what it says by the definition, and what a reading's answer makes of it.
+#![tactic(auto)]
+
 ghost use Rattle.std.specs.Prelude.{◌≡◌};
 ghost use Rattle.answer.specs.Answer.{told};
 ghost use Rattle.admission.specs.Admits.{gate_of};
@@ -6,7 +8,7 @@ ghost use Rattle.admission.specs.Admits.{gate_of};
 use answer::Answer;
 
 // A text that is read, or its refusal.
-#[derive(Drop)]
+#[derive(Clone, Copy)]
 pub enum Gate {
     Open,
     Shut { number: u32, place: usize },

@@ -1,4 +1,6 @@
 // Whether the ended reading accepts a text, as it is or with a header of every radix taken, read into arrays that nobody sees.
+#![tactic(auto)]
+
 ghost use Rattle.std.specs.Prelude.{length};
 ghost use Rattle.admission.specs.Admits.{GateIs, GateIsAny};
 ghost use Rattle.admits.specs.Room.{LentRoom};

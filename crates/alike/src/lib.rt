@@ -1,4 +1,6 @@
 // Whether two names are equal, whether two fixups are, and which of a side's fixups equals one of the other's; for any rows and any text.
+#![tactic(auto)]
+
 mod fixup;
 mod like;
 mod name;

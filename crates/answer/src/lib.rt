@@ -1,8 +1,10 @@
 // What a reading answers: a refusal, or the counts with the verdict.
+#![tactic(auto)]
+
 ghost use Rattle.answer.specs.Answer.{AcceptedIs};
 
 // How much there is: areas, symbols, T and R pairs, kept areas, positions of their images, fixups.
-#[derive(Drop)]
+#[derive(Clone, Copy)]
 pub struct Counts {
     pub areas: usize,
     pub symbols: usize,
@@ -13,14 +15,14 @@ pub struct Counts {
 }
 
 // Finished if no byte is left, else the place of the next byte.
-#[derive(Drop)]
+#[derive(Clone, Copy)]
 pub enum Verdict {
     Finished,
     Stopped { place: usize },
 }
 
 // A refusal with its number and place, or the counts and the verdict.
-#[derive(Drop)]
+#[derive(Clone, Copy)]
 pub enum Answer {
     Refusal { number: u32, place: usize },
     Accepted { counts: Counts, verdict: Verdict },

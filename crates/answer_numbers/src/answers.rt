@@ -9,7 +9,7 @@ use header::{Head, Width};
 
 // What a header tells: 4 if there is none; or 0, the radix, 1 for big, and the address length.
 #[repr(C)]
-#[derive(Drop)]
+#[derive(Clone, Copy)]
 pub struct HeaderNumbers {
     pub refusal: u32,
     pub radix: u32,
@@ -19,7 +19,7 @@ pub struct HeaderNumbers {
 
 // A target's answer: a refusal's number; or 0 and the target.
 #[repr(C)]
-#[derive(Drop)]
+#[derive(Clone, Copy)]
 pub struct TargetNumbers {
     pub refusal: u32,
     pub target: u64,

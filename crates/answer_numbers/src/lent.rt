@@ -9,7 +9,7 @@ use rooms::{
 
 // Numbers in a row of each table.
 #[repr(C)]
-#[derive(Drop)]
+#[derive(Clone, Copy)]
 pub struct Widths {
     pub area: usize,
     pub symbol: usize,
@@ -18,7 +18,7 @@ pub struct Widths {
 
 // The longest text, and how many elements each lent buffer has to have room for.
 #[repr(C)]
-#[derive(Drop)]
+#[derive(Clone, Copy)]
 pub struct Rooms {
     pub text: usize,
     pub areas: usize,

@@ -1,4 +1,6 @@
 // Answers about headers and targets as numbers, and how much a caller has to lend: an enum cannot cross over to C.
+#![tactic(auto)]
+
 mod answers;
 mod lent;
 

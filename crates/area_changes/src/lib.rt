@@ -1,4 +1,6 @@
 // The kept areas, pair by pair.
+#![tactic(auto)]
+
 ghost use Rattle.std.specs.Prelude.{◌≡◌, false, true, ◌++◌, ◌+◌, ◌-◌, ◌<◌, ◌≤◌, length, ltb};
 ghost use Rattle.format.specs.Lists.{pick};
 ghost use Rattle.laws.specs.Rows.{area_at, areas_in, fixups_in};

@@ -8,7 +8,7 @@ use mathlib.Core.Option.{Option, none, some}
 use native.Mathlib.Omega.{arith}
 use lib.ListN.{get_or}
 use borrow.Author.Rules.{rules}
-use Rattle.hex.specs.Hex.{hex_digits, value_and_mask}
+use Rattle.hexadecimal.specs.Hex.{hex_digits, value_and_mask}
 use Rattle.format.specs.Lists.{pick}
 use Rattle.format.specs.Tables.{Area, absolute, base}
 use Rattle.kept_areas.specs.Told.{told_id}

@@ -2,7 +2,7 @@
 -- Assumes nothing.
 use Rattle.std.specs.Prelude.{ℕ, ◌≡◌, List, [], ◌∷◌, ◌++◌}
 use Rattle.std.proofs.Math.Option.{Option, some}
-use Rattle.hex.specs.Hex.{hex_digits}
+use Rattle.hexadecimal.specs.Hex.{hex_digits}
 use Rattle.format.specs.Lists.{pick}
 use Rattle.format.specs.Tables.{Area, absolute, base}
 use Rattle.sink.specs.Sinks.{AddsDecimal}

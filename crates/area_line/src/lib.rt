@@ -1,6 +1,8 @@
 // What a listing says of an area: its kind with the base, its id, and the value and mask of a position.
+#![tactic(auto)]
+
 ghost use Rattle.std.specs.Prelude.{◌≡◌, get_or};
-ghost use Rattle.hex.specs.Hex.{value_and_mask};
+ghost use Rattle.hexadecimal.specs.Hex.{value_and_mask};
 ghost use Rattle.format.specs.Tables as the;
 ghost use Rattle.laws.specs.Rows.{area_at, areas_in};
 ghost use Rattle.sink.specs.Sinks.{Adds};
@@ -40,5 +42,5 @@ pub fn position(s: Sink, out: &mut Buffer, values: &[u8], masks: &[u8], i: usize
 {
     let value = cells::byte_at(values, i);
     let mask = cells::byte_at(masks, i);
-    sink::put(s, out, &hex::value_and_mask(value as usize, mask as usize))
+    sink::put(s, out, &hexadecimal::value_and_mask(value as usize, mask as usize))
 }

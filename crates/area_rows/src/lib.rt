@@ -1,4 +1,6 @@
 // What an area's row says: its name, size, kind, base and known bits; and the known bits written into it.
+#![tactic(auto)]
+
 ghost use Rattle.std.specs.Prelude.{◌≡◌, ◌+◌, ◌*◌, set};
 ghost use Rattle.format.specs.Tables as the;
 ghost use Rattle.laws.specs.Rows.{area_at, known_at};

@@ -1,4 +1,6 @@
 // The text of the module that an argument names: a file, or standard input, which is called `-`.
+#![tactic(auto)]
+
 use console::{Input, Room};
 
 // Tells why a file cannot be opened.

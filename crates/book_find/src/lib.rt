@@ -1,4 +1,6 @@
 // A name looked up in a pattern book, through the contents by halving.
+#![tactic(auto)]
+
 ghost use Rattle.std.specs.Prelude.{◌≡◌};
 ghost use Rattle.book.specs.Found.{find};
 ghost use Rattle.book_find.specs.Told.{found_of};
@@ -6,7 +8,7 @@ ghost use Rattle.book_find.specs.Told.{found_of};
 use book_rows::{Way, compare, name_at, number_at, row_at};
 
 // Where a pattern stands and how many positions it has, or that its name is not in the book.
-#[derive(Drop)]
+#[derive(Clone, Copy)]
 pub enum Found {
     At { place: u32, size: u32 },
     Missing,

@@ -1,4 +1,6 @@
 // Entries given to be written, by a pool of bytes and rows of five numbers: whether they lie in the pool, and whether a name stands twice.
+#![tactic(auto)]
+
 mod given;
 mod twice;
 

@@ -9,7 +9,7 @@ use crate::given::given_name;
 use book_rows::{Way, compare};
 
 // No name stands twice, or the first entry whose name an earlier one has.
-#[derive(Drop)]
+#[derive(Clone, Copy)]
 pub enum Twice {
     Never,
     At { entry: u32 },

@@ -9,7 +9,7 @@ use book_rows::{place_of, row_at};
 use cells::wide;
 
 // Where the bodies end, or the first row that does not follow the one before it.
-#[derive(Drop)]
+#[derive(Clone, Copy)]
 pub enum Ends {
     At { place: usize },
     Stop { row: u32 },

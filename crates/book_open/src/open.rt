@@ -8,7 +8,7 @@ use crate::ordered::{Pass, first_pass};
 use book_rows::{number_at, place_of};
 
 // A book that is opened, with how many entries; or why and where not.
-#[derive(Drop)]
+#[derive(Clone, Copy)]
 pub enum Opened {
     Book { entries: u32 },
     Refused { number: u8, place: usize },

@@ -11,7 +11,7 @@ use book_rows::{Way, compare, name_at, row_at};
 use cells::wide;
 
 // All rows passed, or the first that did not.
-#[derive(Drop)]
+#[derive(Clone, Copy)]
 pub enum Pass {
     All,
     Stop { row: u32 },

@@ -1,4 +1,6 @@
 // What writing a pattern book will answer, and the sizes of its entries; nothing is changed.
+#![tactic(auto)]
+
 mod plan;
 mod sizes;
 

@@ -8,14 +8,14 @@ use book_given::{Twice, first_out, first_twice};
 use book_rows::place_of;
 
 // The length of the book, or that it is more than the room.
-#[derive(Drop)]
+#[derive(Clone, Copy)]
 pub enum Fit {
     Over,
     End { place: usize },
 }
 
 // The length of the book, or why it is not written.
-#[derive(Drop)]
+#[derive(Clone, Copy)]
 pub enum Wrote {
     Book { length: usize },
     Refused { number: u8, place: u32 },

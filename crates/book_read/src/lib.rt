@@ -1,4 +1,6 @@
 // Patterns out of a pattern book: handed back as parts of the lent book, or copied into lent values and masks.
+#![tactic(auto)]
+
 ghost use Rattle.std.specs.Prelude.{◌≡◌, ◌+◌, min, length};
 ghost use Rattle.std.proofs.lemmas.List.Edits.{sets};
 ghost use Rattle.book.specs.Contents.{part};
@@ -11,7 +13,7 @@ use book_rows::part_of;
 use cells::{copy_bytes, wide};
 
 // How many positions were copied; or why nothing was: 21, 22, 23 or 24, and its place.
-#[derive(Drop)]
+#[derive(Clone, Copy)]
 pub enum Copied {
     Pattern { size: u32 },
     Refused { number: u8, place: usize },

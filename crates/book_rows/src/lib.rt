@@ -1,4 +1,6 @@
 // What stands in a pattern book, read where it stands: parts, names in their order, numbers and rows of the contents. For any bytes: past the end there is nothing to read.
+#![tactic(auto)]
+
 mod name;
 mod row;
 

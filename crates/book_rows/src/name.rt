@@ -24,7 +24,7 @@ pub fn part_of<'a>(bytes: &'a [u8], at: usize, n: u32) -> &'a [u8]
 }
 
 // How a name stands to another: before it, the same, behind it.
-#[derive(Drop)]
+#[derive(Clone, Copy)]
 pub enum Way {
     Less,
     Same,

@@ -10,7 +10,7 @@ use cells::wide;
 use joining::endian_to_number;
 
 // An entry's row: place and length of its name, place and size of its pattern.
-#[derive(Drop)]
+#[derive(Clone, Copy)]
 pub struct Row {
     pub name: u32,
     pub long: u32,

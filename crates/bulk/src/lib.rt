@@ -1,9 +1,11 @@
 // All bytes of a descriptor into a lent room of any length.
+#![tactic(auto)]
+
 ghost use Rattle.std.specs.Prelude.{length};
 ghost use Rattle.bulk.specs.Inputs.{Within};
 
 // What one read gives: bytes, the end, or an error, which errno tells.
-#[derive(Drop)]
+#[derive(Clone, Copy)]
 enum Turn {
     Bytes(usize),
     End,
@@ -11,7 +13,7 @@ enum Turn {
 }
 
 // All that there is to read, or all that the room takes; or an error, which errno tells.
-#[derive(Drop)]
+#[derive(Clone, Copy)]
 pub enum Input {
     Text(usize),
     Failed,

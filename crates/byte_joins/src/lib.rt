@@ -1,4 +1,6 @@
 // Two or three bytes joined to a number. A byte over 255 is none, as the reader of two capital digits answers it; then the answer is a number that no bytes make.
+#![tactic(auto)]
+
 ghost use Rattle.std.specs.Prelude.{◌≡◌, ◌<◌};
 ghost use Rattle.joined_bytes.specs.Steps.{join_step};
 ghost use Rattle.byte_joins.specs.Joins.{two_joined, three_joined};

@@ -1,4 +1,6 @@
 // Lent bytes and numbers, read and written at any place: past the end a read gives 0 and a store changes nothing.
+#![tactic(auto)]
+
 ghost use Rattle.std.specs.Prelude.{◌≡◌, take, replicate, get_or, set};
 ghost use Rattle.std.proofs.lemmas.List.Edits.{sets};
 ghost use Rattle.cells.specs.Room.{Room};

@@ -1,11 +1,13 @@
 // What a comparison of two texts answers, and the same as numbers: an enum cannot cross over to C.
+#![tactic(auto)]
+
 ghost use Rattle.std.specs.Prelude.{◌≡◌, ◌*◌, leb};
 ghost use Rattle.difference.specs.Rows.{change_columns};
 ghost use Rattle.change_answer.specs.Answer.{told_of};
 ghost use Rattle.change_answer.specs.Numbers.{changed_numbers};
 
 // A refusal of the older text, of the newer, or of both; or how many rows there are.
-#[derive(Drop)]
+#[derive(Clone, Copy)]
 pub enum Told {
     OlderRefused { number: u32, place: usize },
     NewerRefused { number: u32, place: usize },
@@ -16,7 +18,7 @@ pub enum Told {
 // The answer: a refusal's number, 1 if it is the older text's, 2 if it is the newer's, else 0, and its place; or 0 and how
 // many rows there are.
 #[repr(C)]
-#[derive(Drop)]
+#[derive(Clone, Copy)]
 pub struct ChangedNumbers {
     pub refusal: u32,
     pub side: u32,

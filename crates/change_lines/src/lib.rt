@@ -1,4 +1,6 @@
 // The rows of a list of changes, a line each.
+#![tactic(auto)]
+
 mod line;
 mod row;
 

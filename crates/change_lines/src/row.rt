@@ -2,7 +2,7 @@
 use cells::at;
 
 // Its kind, the area's id, and what the kind gives: a position with the older's value and mask and the newer's; the index of a fixup's row; the index of a symbol's row on each side.
-#[derive(Drop)]
+#[derive(Clone, Copy)]
 pub(crate) struct Row {
     pub(crate) kind: u32,
     pub(crate) id: u32,

@@ -1,4 +1,6 @@
 // A row of the list of changes: its kinds, a row added or only counted, and what the walks over two modules can take.
+#![tactic(auto)]
+
 mod kinds;
 mod limits;
 mod row;

@@ -1,4 +1,6 @@
 // The name of a listed symbol, as a part of one of two lent texts, unchanged.
+#![tactic(auto)]
+
 ghost use Rattle.std.specs.Prelude.{◌≡◌};
 ghost use Rattle.changed_name.specs.Name.{listed_name};
 

@@ -1,4 +1,6 @@
 // Tells what changed between two object modules: changes OLDER NEWER.
+#![tactic(auto)]
+
 mod lines;
 mod rows;
 mod told;

@@ -1,4 +1,6 @@
 // What changed between two texts: rows of eight numbers in a lent list, or a refusal that leaves the list unchanged.
+#![tactic(auto)]
+
 ghost use Rattle.answer.specs.Answer.{held, told};
 ghost use Rattle.changes_of.specs.Answer.{Changed, Compares, NewerRead};
 

@@ -9,7 +9,7 @@ use row_count::{RowCount, count_to, grows};
 use sites::{Site, is_ready};
 
 // That the numbers do not fit, a refusal's number, or that there is no refusal.
-#[derive(Drop)]
+#[derive(Clone, Copy)]
 pub enum Checked {
     Misfit,
     Refused(u32),

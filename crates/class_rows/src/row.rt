@@ -8,7 +8,7 @@ use mode::JumpType;
 
 // Entries touched (Other has one more with bit 8), bytes on site, bytes joined into the number, the mask of a moved opcode,
 // the sign bit of the start, the tested bit of the number (Other's is 23 with bit 8), and how many low bits the target has of its own.
-#[derive(Drop)]
+#[derive(Clone, Copy)]
 pub struct Row {
     pub touched: usize,
     pub size: usize,

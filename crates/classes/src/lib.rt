@@ -1,4 +1,6 @@
 // What a mode gives and leaves on site.
+#![tactic(auto)]
+
 ghost use Rattle.std.specs.Prelude.{◌≡◌};
 ghost use Rattle.format.specs.Mode as paper;
 ghost use Rattle.format.specs.Mode.{on_site};

@@ -1,4 +1,6 @@
 // Whether code matches a pattern: at each position the byte has the value's bits wherever the mask has a one.
+#![tactic(auto)]
+
 ghost use Rattle.std.specs.Prelude.{◌≡◌, length};
 ghost use Rattle.code_match.specs.Match.{agrees as agrees_by, mismatch_from};
 

@@ -3,7 +3,7 @@ ghost use Rattle.std.specs.Prelude.{◌≤◌};
 
 // What the arguments ask for: the program's work on the names, where the options end before an argument's number; the
 // help; or what is not known, by the argument's number.
-#[derive(Drop)]
+#[derive(Clone, Copy)]
 pub enum Request {
     Work(usize),
     Help,
@@ -11,7 +11,7 @@ pub enum Request {
 }
 
 // What an argument is.
-#[derive(Drop)]
+#[derive(Clone, Copy)]
 enum Word {
     Name,
     Help,
@@ -21,14 +21,14 @@ enum Word {
 }
 
 // What a turn over the arguments gives: so many more arguments belong to this one, or the answer.
-#[derive(Drop)]
+#[derive(Clone, Copy)]
 enum Turn {
     On(usize),
     Answer(Request),
 }
 
 // A file by its argument's number, the argument under which it is shown, and how many more arguments that took.
-#[derive(Drop)]
+#[derive(Clone, Copy)]
 pub struct Operand {
     pub shown: usize,
     pub file: usize,

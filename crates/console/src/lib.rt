@@ -1,4 +1,6 @@
 // What every program shares: a text out of a descriptor, arguments, and complaints on standard error.
+#![tactic(auto)]
+
 mod arguments;
 mod complaint;
 mod input;

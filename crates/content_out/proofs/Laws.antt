@@ -9,7 +9,7 @@ use native.Mathlib.Nat.{add-zero}
 use lib.ListN.{get_or, length, take}
 use lib.Seq.{length-sets, take_all, take-suc}
 use borrow.Author.Rules.{rules}
-use Rattle.hex.specs.Hex.{hex_digits}
+use Rattle.hexadecimal.specs.Hex.{hex_digits}
 use Rattle.manual.specs.Digits.{bytes_of}
 use Rattle.manual.specs.Each.{Each, IsByte}
 use Rattle.written.specs.Named.{NamedPair}

@@ -1,4 +1,6 @@
 // Bytes, numbers of several bytes and T lines written into a lent text.
+#![tactic(auto)]
+
 ghost use Rattle.std.specs.Prelude.{◌≡◌, [], ◌∷◌, ◌/◌, ◌%◌};
 ghost use Rattle.written.specs.Shapes.{hex_bytes};
 ghost use Rattle.header.specs.Told.{form_of};

@@ -1,4 +1,6 @@
 // Writes an object module of any radix as X: convert, with the module on standard input.
+#![tactic(auto)]
+
 mod module;
 mod told;
 

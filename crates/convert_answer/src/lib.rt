@@ -1,10 +1,12 @@
 // What is answered to a module that is to be converted, and the answer as numbers: an enum cannot cross over to C.
+#![tactic(auto)]
+
 ghost use Rattle.std.specs.Prelude.{◌≡◌};
 ghost use Rattle.convert_answer.specs.Converts.{told};
 ghost use Rattle.convert_answer.specs.Numbers.{convert_numbers};
 
 // A refusal with its number and place; where the reading stopped, with the reason and the place of the halt; or how many bytes were written.
-#[derive(Drop)]
+#[derive(Clone, Copy)]
 pub enum Converted {
     Refusal {
         number: u32,
@@ -22,7 +24,7 @@ pub enum Converted {
 
 // A refusal's number and place, all else 0; or where the reading stopped, its reason and the place of the halt; or how many bytes were written.
 #[repr(C)]
-#[derive(Drop)]
+#[derive(Clone, Copy)]
 pub struct ConvertNumbers {
     pub refusal: u32,
     pub reason: u32,

@@ -1,4 +1,6 @@
 // What the H line tells of a module: the first line of group one that has its form, compared with the counted A and S lines.
+#![tactic(auto)]
+
 ghost use Rattle.std.specs.Prelude.{◌≡◌};
 ghost use Rattle.header.specs.Told.{form_of};
 ghost use Rattle.counts.specs.Counts.{compared, told_from};
@@ -14,14 +16,14 @@ mod walk;
 pub use walk::{entry_end, group_one_end};
 
 // Where group one goes on behind a line, or that it stops there.
-#[derive(Drop)]
+#[derive(Clone, Copy)]
 pub enum End {
     At { next: usize },
     Stops,
 }
 
 // What is told and what was counted are equal, or not equal, or nothing is told.
-#[derive(Drop)]
+#[derive(Clone, Copy)]
 pub enum Counted {
     Equal,
     NotEqual,

@@ -1,5 +1,7 @@
 // Which fragments of a T and R pair cover an entry of its line, and which entry a position is written from.
 // Here ms and es are the fragments' modes and entries, width is the address length, and a line has so many entries: the address and its content.
+#![tactic(auto)]
+
 ghost use Rattle.std.specs.Prelude.{◌≡◌, ◌&&◌, ◌-◌, eqb};
 ghost use Rattle.format.specs.Lists.{pick};
 ghost use Rattle.format.specs.Mode as paper;

@@ -1,4 +1,6 @@
 // Digits: what a byte is worth as one, and a byte of two capital digits of radix 16, as modules have them, read without a loop.
+#![tactic(auto)]
+
 ghost use Rattle.std.specs.Prelude.{◌≡◌};
 ghost use Rattle.format.specs.Bytes.{worth};
 ghost use Rattle.digits.specs.Capitals.{Hex, capitals};

@@ -13,7 +13,7 @@ use borrow.Author.Rules.{rules}
 use borrow.Author.Tests.{le-leb, leb-false, leb-true, lt-leb}
 use Rattle.format.specs.Lists.{pick}
 use Rattle.cells.proofs.Laws.{sets-append}
-use Rattle.hex.specs.Hex.{hex_digits}
+use Rattle.hexadecimal.specs.Hex.{hex_digits}
 use Rattle.manual.specs.Digits.{digits_of}
 use Rattle.written.specs.Shapes.{Wide}
 use Rattle.written.proofs.Shapes.{number-shape}

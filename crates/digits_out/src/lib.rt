@@ -1,6 +1,8 @@
 // Words, bytes and numbers written into a lent text: capital hex, bytes in two digits behind a blank, numbers in the fewest. Past the end nothing is stored, and the place counts on.
+#![tactic(auto)]
+
 ghost use Rattle.std.specs.Prelude.{◌≡◌, [], ◌∷◌, ◌+◌, ◌<◌};
-ghost use Rattle.hex.specs.Hex.{hex_digits};
+ghost use Rattle.hexadecimal.specs.Hex.{hex_digits};
 ghost use Rattle.manual.specs.Digits.{digits_of};
 ghost use Rattle.digits_out.specs.Wrote.{capped, HasDigits, Wrote};
 
@@ -41,7 +43,7 @@ pub fn put_byte(out: &mut [u8], at: usize, b: u8) -> usize
     ensures { Wrote (32 ∷ hex_digits 2 b) out.old at result out.new }
 {
     let p = put(out, at, b' ');
-    put_word(out, p, &hex::three(b as usize)[1..])
+    put_word(out, p, &hexadecimal::three(b as usize)[1..])
 }
 
 // How many digits a number has.
@@ -79,5 +81,5 @@ pub fn put_number(out: &mut [u8], at: usize, n: u32) -> usize
     ensures { Wrote (digits_of 16 1 n) out.old at result out.new }
 {
     let k = 8 - width(n);
-    put_word(out, at, &hex::eight(n as usize)[k..])
+    put_word(out, at, &hexadecimal::eight(n as usize)[k..])
 }

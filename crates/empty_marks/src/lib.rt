@@ -1,4 +1,6 @@
 // The marks by which an empty pair in the usual form is known before its digits are read: two line ends in their places, and what its R line begins with.
+#![tactic(auto)]
+
 ghost use Rattle.std.specs.Prelude.{◌≡◌};
 ghost use Rattle.empty_marks.specs.Marks.{ends_in_place, zero_lead};
 

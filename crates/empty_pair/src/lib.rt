@@ -1,5 +1,7 @@
 // A pair without content and fragments in the usual form, as modules have it: `T xx xx xx`, LF, `R 00 00 xx xx`, LF, in capital digits of radix 16. More than a third of all pairs are such.
 // It is a fast way: where it answers, both lines end where it says and the definition reads no more of them; where it does not, nothing is said, and the readers of any line are asked.
+#![tactic(auto)]
+
 ghost use Rattle.std.specs.Prelude.{◌≡◌, length};
 ghost use Rattle.header.specs.Told.{form_of};
 ghost use Rattle.empty_pair.specs.Empty.{three, LeadsAddress, AddressOnly, AreaOnly, EmptyPair};
@@ -11,7 +13,7 @@ use fields::same_so_far;
 use header::{Form, Width};
 
 // The address and the area of an empty pair; or another form, or none.
-#[derive(Drop)]
+#[derive(Clone, Copy)]
 pub enum Empty {
     Is { address: u32, area: u32 },
     Other,

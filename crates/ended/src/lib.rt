@@ -1,5 +1,7 @@
 // The ended reading: what document 01 says of a text, why and where a reading that stopped came to a halt, and what the H line
 // says of the counts. Both are looked at once, behind the reading.
+#![tactic(auto)]
+
 ghost use Rattle.answer.specs.Answer.{held, told};
 ghost use Rattle.told_beside.specs.Beside.{accepted_with};
 ghost use Rattle.ended.specs.Answer.{Answers, Beside, Read, WasRead};

@@ -13,7 +13,7 @@ use numbers::Num;
 use scan::Kind;
 
 // An addr or none, and the place behind it.
-#[derive(Drop)]
+#[derive(Clone, Copy)]
 struct AddrAt {
     addr: Addr,
     next: usize,

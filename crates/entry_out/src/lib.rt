@@ -1,4 +1,6 @@
 // A and S lines written into a lent text, each with its LF.
+#![tactic(auto)]
+
 ghost use Rattle.std.specs.Prelude.{◌++◌};
 ghost use Rattle.manual.specs.Digits.{digits_of};
 ghost use Rattle.digits_out.specs.Wrote.{Wrote};
@@ -7,7 +9,7 @@ ghost use Rattle.entry_out.specs.EntryOut.{addr_part, area_out, given_addr, kind
 use digits_out::{put, put_number, put_word};
 
 // The numbers of an area; addr counts only if it is given.
-#[derive(Drop)]
+#[derive(Clone, Copy)]
 pub struct AreaNumbers {
     pub size: u32,
     pub flags: u32,

@@ -1,5 +1,7 @@
 // What lines of group one are made of: titles, which are the letter and a name, and the fields of an A line.
 // A reader gets the bytes of one line, and answers what stands there with the place behind it, or why and where it came to a halt. Past the end it reads nothing.
+#![tactic(auto)]
+
 mod area_fields;
 mod parts;
 mod usual;
@@ -8,7 +10,7 @@ pub use area_fields::{addr_field, flags_field, size_field};
 pub use parts::{field_at, title};
 
 // A name's place and length and the place behind it, or why and where it came to a halt.
-#[derive(Drop)]
+#[derive(Clone, Copy)]
 pub enum NameAt {
     Name { at: usize, len: usize, next: usize },
     NoName { reason: u8, at: usize },

@@ -1,10 +1,12 @@
 // What says of which sort a line of group one is: its letter, and of an S line the word Ref or Def.
+#![tactic(auto)]
+
 ghost use Rattle.std.specs.Prelude.{◌≡◌};
 ghost use Rattle.format.specs.Entries.{ref_or_def};
 ghost use Rattle.entry_sort.specs.Sorts.{letter_of, told_ref};
 
 // An A line, an S line, or another.
-#[derive(Drop)]
+#[derive(Clone, Copy)]
 pub enum Letter {
     Area,
     Symbol,
@@ -12,7 +14,7 @@ pub enum Letter {
 }
 
 // Whether it is Ref, else it is Def, and the place behind it; or the place where neither stands.
-#[derive(Drop)]
+#[derive(Clone, Copy)]
 pub enum Sort {
     Is { is_ref: bool, next: usize },
     Neither { at: usize },

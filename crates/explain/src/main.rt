@@ -1,4 +1,6 @@
 // Tells of one position of a kept area which line wrote it last, and what: explain [--lines] ID POSITION [FILE].
+#![tactic(auto)]
+
 mod module;
 mod source;
 mod told;
@@ -8,7 +10,7 @@ use numbers::Num;
 use position_lines::Asked;
 
 // A number that an argument gives: the whole word in a radix, or none.
-#[derive(Drop)]
+#[derive(Clone, Copy)]
 enum Given {
     Number(u32),
     None,

@@ -1,4 +1,6 @@
 // What C and Rust link: both readings, over numbers and slices. Every function answers for every input; none asks anything of its caller.
+#![tactic(auto)]
+
 ghost use Rattle.std.specs.Prelude.{true, false};
 ghost use Rattle.answer.specs.Answer.{held};
 ghost use Rattle.exports.specs.Answers.{Answers, EndedAnswers};

@@ -1,5 +1,7 @@
 // What C and Rust link of a pattern book: opening one, its rows, finding a name, and copying a pattern, over numbers
 // and slices. Every function answers for every input and takes no heap; none asks anything of its caller.
+#![tactic(auto)]
+
 ghost use Rattle.std.specs.Prelude.{◌≡◌, min, length};
 ghost use Rattle.book.specs.Opened.{check};
 ghost use Rattle.book.specs.Found.{find, located, row_at};
@@ -14,7 +16,7 @@ use book_rows::row_at;
 
 // What opening tells: 0 and how many entries; or 21 or 22 and its place.
 #[repr(C)]
-#[derive(Drop)]
+#[derive(Clone, Copy)]
 pub struct OpenedNumbers {
     pub refusal: u32,
     pub entries: u32,
@@ -23,7 +25,7 @@ pub struct OpenedNumbers {
 
 // A row of the contents: place and length of a name, place and size of its pattern.
 #[repr(C)]
-#[derive(Drop)]
+#[derive(Clone, Copy)]
 pub struct EntryNumbers {
     pub name: u32,
     pub length: u32,
@@ -33,7 +35,7 @@ pub struct EntryNumbers {
 
 // What finding tells: 0, where the pattern stands and how many positions it has; or 23.
 #[repr(C)]
-#[derive(Drop)]
+#[derive(Clone, Copy)]
 pub struct FoundNumbers {
     pub refusal: u32,
     pub place: u32,
@@ -42,7 +44,7 @@ pub struct FoundNumbers {
 
 // What copying tells: 0 and how many positions were copied; or 23 or 24.
 #[repr(C)]
-#[derive(Drop)]
+#[derive(Clone, Copy)]
 pub struct CopiedNumbers {
     pub refusal: u32,
     pub size: u32,

@@ -1,5 +1,7 @@
 // What C and Rust link: what changed between two texts, over numbers and slices. It answers for every input and asks
 // nothing of its caller.
+#![tactic(auto)]
+
 ghost use Rattle.exports_changes.specs.Numbers.{Answers};
 
 use change_answer::{ChangedNumbers, changed_numbers};

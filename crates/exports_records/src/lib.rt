@@ -1,5 +1,7 @@
 // What C and Rust link of a module's T and R records: the records themselves, a text written from rows, a module of any radix written as X, who wrote
 // one position last, and code at chosen addresses. Every function answers for every input and asks nothing of its caller.
+#![tactic(auto)]
+
 ghost use Rattle.code_match.specs.Match.{mismatch_from};
 ghost use Rattle.exports_records.specs.Converts.{ConvertsNumbers};
 ghost use Rattle.exports_records.specs.Linked.{Reads, WritesOut};

@@ -1,5 +1,7 @@
 // What C and Rust link beside the readings: both targets of a fixup, what a target's caller needs of a text, and how much a
 // caller of a reading has to lend. Every function answers for every input; none asks anything of its caller.
+#![tactic(auto)]
+
 ghost use Rattle.std.specs.Prelude.{◌≡◌};
 ghost use Rattle.format.specs.Header.{header};
 ghost use Rattle.format.specs.Target as the;

@@ -1,5 +1,7 @@
 // What lines of both groups share: a word and blanks, letters that are due, and lines that are ignored.
 // A reader gets the bytes of one line, with no CR or LF among them. Places are places in the line.
+#![tactic(auto)]
+
 ghost use Rattle.std.specs.Prelude.{◌≡◌};
 ghost use Rattle.format.specs.Entries.{lead};
 ghost use Rattle.fields.specs.Told.{went};
@@ -12,7 +14,7 @@ mod ignored;
 pub use ignored::ignore_line;
 
 // The place behind what has no value, or why and where it came to a halt.
-#[derive(Drop)]
+#[derive(Clone, Copy)]
 pub enum Place {
     At { next: usize },
     Not { reason: u8, at: usize },

@@ -1,4 +1,6 @@
 // Figures of one module, from the rows that a reading lent: its fixups by class, and its known bits.
+#![tactic(auto)]
+
 ghost use Rattle.std.specs.Prelude.{◌≡◌, min, eqb};
 ghost use Rattle.format.specs.Lists.{pick};
 ghost use Rattle.format.specs.Mode.{class_number, class_number_of};
@@ -11,7 +13,7 @@ use mode::{JumpType, class_of};
 use row_parts::fixup_cell;
 
 // How many fixups there are of each class.
-#[derive(Drop)]
+#[derive(Clone, Copy)]
 pub struct Classes {
     pub addr19: u64,
     pub addr11: u64,

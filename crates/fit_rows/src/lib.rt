@@ -1,4 +1,6 @@
 // Whether the T and R pairs of a module, out of the rows of its records, are within the conditions under which code is laid.
+#![tactic(auto)]
+
 mod fragments;
 mod spans;
 

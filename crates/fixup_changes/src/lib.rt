@@ -1,4 +1,6 @@
 // The fixups of an area that the other side lacks.
+#![tactic(auto)]
+
 ghost use Rattle.std.specs.Prelude.{◌≡◌, [], ◌∷◌, ◌<◌, ◌≤◌, eqb};
 ghost use Rattle.format.specs.Lists.{pick};
 ghost use Rattle.laws.specs.Rows.{fixup_row, fixups_in};
@@ -30,7 +32,7 @@ fn add(
 }
 
 // How many rows there are, and which of the other side's fixups is expected next.
-#[derive(Drop)]
+#[derive(Clone, Copy)]
 struct Turn {
     count: usize,
     expected: usize,

@@ -1,4 +1,6 @@
 // The line of a fixup, as a listing has it.
+#![tactic(auto)]
+
 use fixup_rows::Fixup;
 use sink::{Buffer, Sink};
 

@@ -1,4 +1,6 @@
 // The numbers of a fixup row, stored at a place.
+#![tactic(auto)]
+
 ghost use Rattle.std.specs.Prelude.{◌≡◌};
 ghost use Rattle.std.proofs.lemmas.List.Edits.{sets};
 ghost use Rattle.fixup_row.specs.Row.{row_of};

@@ -8,7 +8,7 @@ use row_parts::{fixup_cell, part};
 
 // A fixup: the id of its area, its position, size and mode, what it refers to, and its number. It refers to an
 // outside symbol by the place and the length of its name, or to the area of an id; and to a value behind that.
-#[derive(Drop)]
+#[derive(Clone, Copy)]
 pub struct Fixup {
     pub home: u32,
     pub position: u32,

@@ -1,4 +1,6 @@
 // What a fixup's row says, and which fixups belong to an area.
+#![tactic(auto)]
+
 mod fixup;
 mod range;
 

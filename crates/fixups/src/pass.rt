@@ -12,7 +12,7 @@ use row_count::RowCount;
 use sites::Site;
 
 // That the numbers do not fit, a refusal's number, or how many fixup rows there are.
-#[derive(Drop)]
+#[derive(Clone, Copy)]
 pub enum Rowed {
     Misfit,
     Refused(u32),

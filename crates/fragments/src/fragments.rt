@@ -12,7 +12,7 @@ use scan::Kind;
 use usual_fragment::Usual;
 
 // A fragment and the place behind it, or why and where it came to a halt.
-#[derive(Drop)]
+#[derive(Clone, Copy)]
 pub enum FragmentAt {
     Fragment {
         mode: u32,

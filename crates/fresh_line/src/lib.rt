@@ -1,5 +1,7 @@
 // The work line of a pair before its fragments are worked in: its content with full masks, all of it kept.
 // Here bs are the content bytes; wv, wm and wk the work line's values, masks and kept flags.
+#![tactic(auto)]
+
 ghost use Rattle.std.specs.Prelude.{◌≡◌, ◌≤◌, length, take, replicate};
 ghost use Rattle.format.specs.WorkLine.{padded};
 ghost use Rattle.sites.specs.Site.{line_fits, Short};

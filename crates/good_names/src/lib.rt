@@ -1,4 +1,6 @@
 // Whether a name can be written.
+#![tactic(auto)]
+
 mod names;
 
 pub use names::name_good;

@@ -1,4 +1,6 @@
 // Group two before its first pair; refusal 9.
+#![tactic(auto)]
+
 ghost use Rattle.std.specs.Prelude.{◌≡◌};
 ghost use Rattle.group_start.specs.Start.{going_at, starting_of};
 

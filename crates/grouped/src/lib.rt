@@ -1,4 +1,6 @@
 // Fixup rows in text order to rows grouped by area.
+#![tactic(auto)]
+
 ghost use Rattle.std.specs.Prelude.{◌≡◌, ◌≤◌, ◌+◌, ◌*◌, length, get_or};
 ghost use Rattle.format.specs.Lists.{over};
 ghost use Rattle.laws.specs.Rows.{fixup_row, fixups_in};
@@ -8,7 +10,7 @@ use cells::{at, copy_u32s};
 use rooms::FIXUP_WIDTH;
 
 // How many numbers were laid over the buffer, or that one of the two buffers has no room for the rows.
-#[derive(Drop)]
+#[derive(Clone, Copy)]
 pub enum Grouped {
     Numbers(usize),
     Misfit,

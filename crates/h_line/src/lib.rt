@@ -1,4 +1,6 @@
 // The line `H N areas N global symbols`: each space one or more blanks, blanks may trail, nothing else.
+#![tactic(auto)]
+
 ghost use Rattle.std.specs.Prelude.{◌≡◌, length};
 ghost use Rattle.fields.specs.Told.{went};
 ghost use Rattle.counts.specs.Counts.{last_word, symbol_words, two_numbers, whole_line, tells as tells_of};
@@ -9,7 +11,7 @@ use numbers::Num;
 use scan::Kind;
 
 // The numbers of areas and of global symbols that a line tells, or nothing.
-#[derive(Drop)]
+#[derive(Clone, Copy)]
 pub enum Told {
     Counts { areas: u32, symbols: u32 },
     Nothing,

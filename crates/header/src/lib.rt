@@ -1,4 +1,6 @@
 // The header: any blanks, CR and LF; one of X D Q, one of H L, one of 2 3 4; then blanks.
+#![tactic(auto)]
+
 ghost use Rattle.std.specs.Prelude.{◌≡◌, true, ◌+◌};
 ghost use Rattle.format.specs.Header.{radix_of, is_order, is_length, header as header_of};
 ghost use Rattle.header.specs.Told.{more_of, told_head};
@@ -7,7 +9,7 @@ ghost use Rattle.header.specs.Letters.{letters_at};
 use scan::Kind;
 
 // How many bytes an address has.
-#[derive(Drop)]
+#[derive(Clone, Copy)]
 pub enum Width {
     Two,
     Three,
@@ -15,7 +17,7 @@ pub enum Width {
 }
 
 // What the header says: the radix of all numbers, whether the first byte is the highest, and the address length.
-#[derive(Drop)]
+#[derive(Clone, Copy)]
 pub struct Form {
     pub radix: u8,
     pub big: bool,
@@ -23,7 +25,7 @@ pub struct Form {
 }
 
 // A header and the place behind its blanks, or none.
-#[derive(Drop)]
+#[derive(Clone, Copy)]
 pub enum Head {
     Found { form: Form, next: usize },
     Missing,

@@ -1,4 +1,6 @@
 // The words that ask for help.
+#![tactic(auto)]
+
 mod help;
 
 pub use help::asks_help;

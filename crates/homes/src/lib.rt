@@ -1,4 +1,6 @@
 // Where an area's image is: found once, it serves all pairs of the area.
+#![tactic(auto)]
+
 ghost use Rattle.std.specs.Prelude.{◌≡◌, ◌≤◌, ◌<◌, leb};
 ghost use Rattle.format.specs.Lists.{pick};
 ghost use Rattle.format.specs.Tables.{kept_size};
@@ -9,7 +11,7 @@ use cells::at;
 use rooms::AREA_WIDTH;
 
 // An area's index, its id plus 1, where its image starts, and the image's size; all but the index are 0 for an area that is not kept.
-#[derive(Drop)]
+#[derive(Clone, Copy)]
 pub struct Home {
     pub area: usize,
     pub id: u32,

@@ -1,5 +1,7 @@
 // A byte with its mask stored in the images of an area, and by how much the ones in the masks rise by it: those of the new mask come on, and those of the old go off.
 // What is answered stands 8 above that, so that it does not fall below 0.
+#![tactic(auto)]
+
 ghost use Rattle.std.specs.Prelude.{◌≡◌, ◌≤◌, set};
 ghost use Rattle.std.specs.Int.Count.{ones};
 ghost use Rattle.image_byte.specs.Count.{Marked};

@@ -9,7 +9,7 @@ use image_byte::put_byte;
 use sites::{Site, is_ready};
 
 // By how much the position grows at an entry, and the count then.
-#[derive(Drop)]
+#[derive(Clone, Copy)]
 pub(crate) struct Entered {
     pub grows: u32,
     pub count: usize,

@@ -1,4 +1,6 @@
 // Numbers that stand as two, three or four bytes: addresses and indexes, in both orders.
+#![tactic(auto)]
+
 ghost use Rattle.std.specs.Prelude.{◌≡◌};
 ghost use Rattle.format.specs.Number.{joined as joined_at};
 ghost use Rattle.format.specs.Pairs.{index};

@@ -1,4 +1,6 @@
 // Two, three or four bytes, separated by blanks, as one number, in both orders.
+#![tactic(auto)]
+
 ghost use Rattle.std.specs.Prelude.{◌≡◌, ◌*◌, ◌<◌, ◌≤◌, ◌^◌};
 ghost use Rattle.format.specs.Number.{joined as joined_at};
 ghost use Rattle.numbers.specs.Told.{told};

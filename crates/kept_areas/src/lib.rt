@@ -1,4 +1,6 @@
 // The kept areas: an area's id among them, and its image.
+#![tactic(auto)]
+
 mod image;
 mod kept;
 mod rank;

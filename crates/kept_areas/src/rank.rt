@@ -7,7 +7,7 @@ ghost use Rattle.kept_areas.specs.Told.{told_id};
 use crate::kept::kept_one;
 
 // An area's rank among the kept ones, if it is kept.
-#[derive(Drop)]
+#[derive(Clone, Copy)]
 pub enum Id {
     Kept { id: usize },
     Unkept,

@@ -1,4 +1,6 @@
 // The kept areas: how many there are, and their sizes in all.
+#![tactic(auto)]
+
 ghost use Rattle.std.specs.Prelude.{◌≡◌, ◌≤◌, ◌<◌, leb};
 ghost use Rattle.format.specs.Lists.{pick};
 ghost use Rattle.format.specs.Tables.{kept_size};
@@ -9,7 +11,7 @@ use cells::wide;
 use rooms::AREA_ROOM;
 
 // How many areas are kept, and the positions of their images.
-#[derive(Drop)]
+#[derive(Clone, Copy)]
 pub struct Sizes {
     pub kept: usize,
     pub total: usize,

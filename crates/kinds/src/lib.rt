@@ -1,4 +1,6 @@
 // The positions of images by what is known of them: known, partly known, relocated, and written by no line.
+#![tactic(auto)]
+
 ghost use Rattle.std.specs.Prelude.{◌≡◌, eqb, get_or};
 ghost use Rattle.format.specs.Lists.{pick};
 ghost use Rattle.kinds.specs.Kinds.{kind_count, kind_of, kinds_in};
@@ -6,7 +8,7 @@ ghost use Rattle.kinds.specs.Kinds.{kind_count, kind_of, kinds_in};
 use cells::byte_at;
 
 // How many positions there are of each kind.
-#[derive(Drop)]
+#[derive(Clone, Copy)]
 pub struct Kinds {
     pub unwritten: usize,
     pub known: usize,

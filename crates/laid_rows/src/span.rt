@@ -7,7 +7,7 @@ use homes::{Home, home_at};
 use rooms::PAIR_WIDTH;
 
 // The first content byte and the end, the first fragment and how many; the place in the images, and how many bytes have room there.
-#[derive(Drop)]
+#[derive(Clone, Copy)]
 pub(crate) struct Span {
     pub begin: usize,
     pub end: usize,
@@ -18,7 +18,7 @@ pub(crate) struct Span {
 }
 
 // A pair's numbers: its address and area's index, the first content byte and how many, the first fragment and how many.
-#[derive(Drop)]
+#[derive(Clone, Copy)]
 struct Row {
     address: u32,
     area: u32,

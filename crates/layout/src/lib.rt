@@ -1,4 +1,6 @@
 // What was read, laid over lent buffers: the rows of areas and symbols, the images, and the fixup rows area by area.
+#![tactic(auto)]
+
 ghost use Rattle.std.specs.Prelude.{◌≡◌, ◌≤◌, take};
 ghost use Rattle.std.proofs.lemmas.List.Edits.{sets};
 ghost use Rattle.layout.specs.Out.{most, FixupsOut, TablesOut, ImagesOut};

@@ -1,4 +1,6 @@
 // Whether a fragment runs past the end of its line: refusal 10.
+#![tactic(auto)]
+
 ghost use Rattle.std.specs.Prelude.{◌≡◌, ◌+◌, ltb};
 ghost use Rattle.format.specs.Mode.{touched_of};
 ghost use Rattle.mode.specs.Class.{told_class};

@@ -1,4 +1,6 @@
 // What a line, or a pair of lines, does to its group once it was read: only numbers are asked, no text is looked at.
+#![tactic(auto)]
+
 ghost use Rattle.std.specs.Prelude.{◌≡◌, ◌&&◌, eqb, leb};
 ghost use Rattle.line_step.specs.Steps.{line_step};
 
@@ -7,7 +9,7 @@ mod ends;
 pub use ends::record_end;
 
 // It stops the group; or it is taken, its record ends there, and the reading goes on behind it; or it is taken as the last.
-#[derive(Drop)]
+#[derive(Clone, Copy)]
 pub enum LineStep {
     Stops,
     Goes { end: usize },

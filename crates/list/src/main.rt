@@ -1,4 +1,6 @@
 // Lists object modules by the ended reading.
+#![tactic(auto)]
+
 fn main() {
     listing::run(true)
 }

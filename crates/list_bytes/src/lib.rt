@@ -1,4 +1,6 @@
 // The bytes of a list one by one: a byte put into its place, and the last byte of a text read at once.
+#![tactic(auto)]
+
 ghost use Rattle.std.specs.Prelude.{◌≡◌, set};
 ghost use Rattle.list_bytes.specs.Last.{last_byte};
 

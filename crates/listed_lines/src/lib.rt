@@ -1,4 +1,6 @@
 // The lines of a listing: how it begins, the kept areas with their rows, symbols and fixups, and why a module is not whole.
+#![tactic(auto)]
+
 mod area;
 mod counts;
 mod fixup;

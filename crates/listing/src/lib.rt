@@ -1,5 +1,7 @@
 // What the programs `list` and `list_plain` share: modules from standard input or from files, and
 // the listing of each.
+#![tactic(auto)]
+
 mod arguments;
 mod help;
 mod how;

@@ -9,7 +9,7 @@ use sink::{Buffer, Sink};
 
 // What a reading gave: a refusal; or the counts, and the ended reading's verdict with the H line's word, or the place where the
 // plain reading ended.
-#[derive(Drop)]
+#[derive(Clone, Copy)]
 enum Given {
     Refused {
         number: u32,

@@ -1,5 +1,7 @@
 // Lists of bytes, each behind blanks.
 // A reader takes a text and a place, and answers how many there were and the place behind them. Past the end it reads nothing.
+#![tactic(auto)]
+
 ghost use Rattle.std.specs.Prelude.{◌≡◌};
 ghost use Rattle.format.specs.Number.{next_byte};
 ghost use Rattle.digits.specs.Capitals.{Hex};
@@ -10,7 +12,7 @@ ghost use Rattle.lists.specs.Reach.{Reach};
 use numbers::Num;
 
 // How many things were read one after another, and the place behind them.
-#[derive(Drop)]
+#[derive(Clone, Copy)]
 pub struct Run {
     pub count: usize,
     pub end: usize,

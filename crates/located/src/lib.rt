@@ -1,4 +1,6 @@
 // Where a pair goes: nowhere, not where its numbers do not fit, or to a site in the image of its area.
+#![tactic(auto)]
+
 ghost use Rattle.std.specs.Prelude.{◌≡◌, ◌&&◌, ◌≤◌, ◌-◌, eqb};
 ghost use Rattle.sites.specs.Site.{line_fits, filled_fits};
 ghost use Rattle.located.specs.Site.{image_fits, site_at, found};
@@ -9,7 +11,7 @@ use rooms::IMAGE_ROOM;
 use sites::{Filled, Line, Site, counts_fit};
 
 // That an area is not kept, that the numbers do not fit, or a pair's site.
-#[derive(Drop)]
+#[derive(Clone, Copy)]
 pub enum Found {
     Unkept,
     Misfit,

@@ -1,4 +1,6 @@
 // Looks a name up in a pattern book, or tells what is in it.
+#![tactic(auto)]
+
 mod contents;
 mod pattern;
 mod told;

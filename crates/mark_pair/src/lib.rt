@@ -1,4 +1,6 @@
 // The positions that a pair writes, marked in a map of all positions of the kept areas, from its work line; no image is looked at.
+#![tactic(auto)]
+
 ghost use Rattle.std.specs.Prelude.{◌≤◌, ◌<◌, ◌+◌, get_or, length};
 ghost use Rattle.sites.specs.Site.{Ready};
 ghost use Rattle.mark_pair.specs.Marks.{EntryMarks, EntriesMark, SiteMarks, PairMarks};

@@ -1,4 +1,6 @@
 // The line at a place of a text, shown under its number, and under it a caret at the place.
+#![tactic(auto)]
+
 use shown_line::Window;
 use sink::{Buffer, Sink};
 

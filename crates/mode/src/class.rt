@@ -6,7 +6,7 @@ use crate::bits::class_of;
 use crate::classes::CLASSES;
 
 // What a mode's relocation reaches.
-#[derive(Drop)]
+#[derive(Clone, Copy)]
 pub enum JumpType {
     Addr24,
     Addr19,
@@ -17,7 +17,7 @@ pub enum JumpType {
 }
 
 // The class of a mode, or that there is no such mode.
-#[derive(Drop)]
+#[derive(Clone, Copy)]
 pub enum Jump {
     Of(JumpType),
     Over,

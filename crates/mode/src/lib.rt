@@ -1,4 +1,6 @@
 // Modes: the class of each.
+#![tactic(auto)]
+
 mod bits;
 mod class;
 mod classes;

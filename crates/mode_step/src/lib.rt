@@ -1,4 +1,6 @@
 // The mode step: what a fragment does to its part of the work line.
+#![tactic(auto)]
+
 mod step;
 
 pub use step::{Step, modify_cmf_to_fixup};

@@ -8,7 +8,7 @@ use joining::endian_to_number;
 use mode::JumpType;
 
 // The number that a step made, or that a lent part was too short for it.
-#[derive(Drop)]
+#[derive(Clone, Copy)]
 pub enum Step {
     Number(u32),
     Short,

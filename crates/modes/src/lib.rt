@@ -1,4 +1,6 @@
 // A mode: one byte below F0, or two.
+#![tactic(auto)]
+
 ghost use Rattle.std.specs.Prelude.{◌≡◌, ◌%◌, ◌*◌, ◌+◌, ◌<◌};
 ghost use Rattle.format.specs.Pairs.{any_mode, mode_of};
 ghost use Rattle.numbers.specs.Told.{told};

@@ -1,4 +1,6 @@
 // The lines of standard input, one after the other, through two lent rooms. No more than they hold is kept, however long the input is.
+#![tactic(auto)]
+
 use bulk::Input;
 use libc::STDIN_FILENO;
 
@@ -9,14 +11,14 @@ pub type Block = [u8; 65536];
 pub type Name = [u8; 4096];
 
 // Where the bytes that are not yet taken begin and end in the block.
-#[derive(Drop)]
+#[derive(Clone, Copy)]
 pub struct Cursor {
     pub at: usize,
     pub end: usize,
 }
 
 // A line of so many bytes, at most 4,095; one that is longer, of which the first 4,096 are there; an empty one; the end; or an error, which errno tells.
-#[derive(Drop)]
+#[derive(Clone, Copy)]
 pub enum Line {
     Name { length: usize, next: Cursor },
     Long { next: Cursor },
@@ -26,7 +28,7 @@ pub enum Line {
 }
 
 // A byte, the end, or an error.
-#[derive(Drop)]
+#[derive(Clone, Copy)]
 enum Step {
     Byte { value: u8, next: Cursor },
     End,

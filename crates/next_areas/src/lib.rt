@@ -1,4 +1,6 @@
 // The kept areas one after the other, and a stretch of their images; for any rows and any image.
+#![tactic(auto)]
+
 ghost use Rattle.std.specs.Prelude.{◌≡◌, take, drop};
 ghost use Rattle.format.specs.Tables.{kept};
 ghost use Rattle.laws.specs.Rows.{area_at};

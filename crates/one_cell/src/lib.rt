@@ -1,4 +1,6 @@
 // What a pair alone leaves at one position of its area, from its work line; no image is looked at.
+#![tactic(auto)]
+
 ghost use Rattle.std.specs.Prelude.{◌≡◌, ◌&&◌, ◌≤◌, eqb, get_or, length};
 ghost use Rattle.sites.specs.Site.{Ready};
 ghost use Rattle.one_cell.specs.Cell.{SoughtIn, SiteCell, CellIs};
@@ -12,7 +14,7 @@ use sites::{Filled, Line, Site};
 use work::{Worked, work_line};
 
 // The value and the mask that are written there, that nothing is, that 10 refuses the pair, or that the numbers do not fit.
-#[derive(Drop)]
+#[derive(Clone, Copy)]
 pub enum Cell {
     Byte { value: u8, mask: u8 },
     Nothing,

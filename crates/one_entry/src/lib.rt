@@ -1,4 +1,6 @@
 // One entry more in the rows of areas and symbols; refusals 5 and 6.
+#![tactic(auto)]
+
 ghost use Rattle.std.specs.Prelude.{◌≡◌};
 ghost use Rattle.one_entry.specs.Adds.{Adds};
 ghost use Rattle.one_entry.specs.declared.Added.TheVariants.{Room};
@@ -8,7 +10,7 @@ use put_rows::{put_area, put_symbol};
 use rooms::AREA_ROOM;
 
 // How many rows there are with the entry; or the number of the refusal.
-#[derive(Drop)]
+#[derive(Clone, Copy)]
 pub enum Added {
     Room { areas: usize, symbols: usize },
     Full { number: u32 },

@@ -1,4 +1,6 @@
 // What a text opens with: its header line. A text is answered at once where it has none or one that is not taken; else its lines are read.
+#![tactic(auto)]
+
 ghost use Rattle.std.specs.Prelude.{◌≡◌};
 ghost use Rattle.format.specs.Reading.{refusal};
 ghost use Rattle.answer.specs.Answer.{told};
@@ -9,7 +11,7 @@ use header::{Form, Head};
 use way_in::takes_by;
 
 // The answer to a text whose lines are not read; or its form, the place where its lines begin, and where its header ends.
-#[derive(Drop)]
+#[derive(Clone, Copy)]
 pub enum Opening {
     Answered { answer: Answer },
     Lines { form: Form, at: usize, head: usize },

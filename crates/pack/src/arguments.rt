@@ -4,7 +4,7 @@ use crate::{book, list, shelf, told};
 use console::Operand;
 
 // What an argument before the names is.
-#[derive(Drop)]
+#[derive(Clone, Copy)]
 enum Word {
     Name,
     Skip,
@@ -131,7 +131,7 @@ fn work(pool: &mut [u8], rows: &mut [u32], asked: Job, count: usize) {
 
 // A book of the arguments from the first on, where the options end, with or without modules that are not whole; or their
 // fixups.
-#[derive(Drop)]
+#[derive(Clone, Copy)]
 struct Job {
     first: usize,
     end: usize,
@@ -140,7 +140,7 @@ struct Job {
 }
 
 // What is asked for: the work; the help; or what is not known.
-#[derive(Drop)]
+#[derive(Clone, Copy)]
 enum Request {
     Work(Job),
     Help,

@@ -1,4 +1,6 @@
 // Packs the kept areas of modules into a pattern book.
+#![tactic(auto)]
+
 mod arguments;
 mod book;
 mod list;

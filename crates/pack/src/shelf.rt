@@ -13,7 +13,7 @@ pub type Rows = [u32; ROWS];
 
 // How many bytes and entries wait, whether one found no room, whether a module was not taken, and whether fixups are
 // listed instead.
-#[derive(Drop)]
+#[derive(Clone, Copy)]
 pub struct Shelf {
     pub used: usize,
     pub entries: u32,

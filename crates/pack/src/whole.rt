@@ -4,7 +4,7 @@ use counts_of::Counted;
 use header::Head;
 
 // Why a module is not taken, or that it is.
-#[derive(Drop)]
+#[derive(Clone, Copy)]
 pub(crate) enum Whole {
     Yes,
     Stopped(usize),

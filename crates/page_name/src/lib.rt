@@ -1,4 +1,6 @@
 // Names in a page: nothing in a name can be taken for the page's own text, and control bytes are shown as in a listing.
+#![tactic(auto)]
+
 ghost use Rattle.sink.specs.Sinks.{Adds};
 ghost use Rattle.page_name.specs.Names.{in_page, page_byte, quoted_byte};
 

@@ -1,4 +1,6 @@
 // What the page of a report says of a module: its row with a bar, and a line for each that needs a person.
+#![tactic(auto)]
+
 mod bar;
 mod row;
 

@@ -1,4 +1,6 @@
 // What the row of a T and R record says: its numbers, and its content as a part of all content bytes.
+#![tactic(auto)]
+
 ghost use Rattle.std.specs.Prelude.{◌≡◌, ◌+◌, ◌*◌, get_or};
 ghost use Rattle.row_parts.specs.Parts.{part_of};
 

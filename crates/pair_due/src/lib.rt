@@ -1,4 +1,6 @@
 // Whether the line at which the ended reading stopped is looked at as a T line, of which a pair was due.
+#![tactic(auto)]
+
 ghost use Rattle.std.specs.Prelude.{◌≡◌, ◌||◌, get_or, eqb};
 ghost use Rattle.laws.specs.Places.{line_at};
 

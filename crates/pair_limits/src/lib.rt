@@ -1,4 +1,6 @@
 // The limits of a pair that is to be placed: 256 content bytes and 64 fragments; refusals 7 and 8.
+#![tactic(auto)]
+
 ghost use Rattle.std.specs.Prelude.{◌≡◌};
 ghost use Rattle.pair_limits.specs.Limits.{refused_pair, placed_of};
 

@@ -1,5 +1,7 @@
 // The T and R lines of the pair that wrote a position, for a person: each under its number, a caret under the byte, and each fragment that covers the byte
 // with its mode in words and what it refers to.
+#![tactic(auto)]
+
 mod fragment;
 mod words;
 

@@ -1,10 +1,12 @@
 // Where two lines stand at a place of the text: the first with a full line end behind it, and the one behind that.
+#![tactic(auto)]
+
 ghost use Rattle.pair_places.specs.Places.{PlacesAre};
 
 use text_lines::LineAt;
 
 // The two lines, or that no full line end stands behind the first.
-#[derive(Drop)]
+#[derive(Clone, Copy)]
 pub enum PairPlaces {
     Lines { first: LineAt, second: LineAt },
     Alone,

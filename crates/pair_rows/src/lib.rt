@@ -1,4 +1,6 @@
 // The rows of T and R records, one pair more at a time, and the room that they ask for.
+#![tactic(auto)]
+
 ghost use Rattle.std.specs.Prelude.{◌≡◌, [], ◌∷◌, ◌≤◌, ◌+◌, ◌*◌};
 ghost use Rattle.std.proofs.lemmas.List.Edits.{sets};
 ghost use Rattle.format.specs.Lists.{flat};
@@ -10,7 +12,7 @@ use cells::put_u32;
 use rooms::PAIR_WIDTH;
 
 // How many T and R pairs, content bytes and fragments there are.
-#[derive(Drop)]
+#[derive(Clone, Copy)]
 pub struct PairCounts {
     pub pairs: usize,
     pub content: usize,
@@ -18,7 +20,7 @@ pub struct PairCounts {
 }
 
 // A T and R pair: the T's place, its address and area, and how many content bytes and fragments it has.
-#[derive(Drop)]
+#[derive(Clone, Copy)]
 pub struct PairLine {
     pub place: usize,
     pub address: u32,

@@ -1,18 +1,20 @@
 // A walk over T and R pairs: where it is and how much is stored, and the pair that stands there stored with the place of its T.
+#![tactic(auto)]
+
 ghost use Rattle.pair_rows.specs.Rows.{held};
 ghost use Rattle.pair_walk.specs.Walk.{WalksOn, line_of};
 
 use pair_rows::{PairCounts, PairLine, store};
 
 // The place where the walk is, and how much is stored.
-#[derive(Drop)]
+#[derive(Clone, Copy)]
 pub struct Walked {
     pub next: usize,
     pub counts: PairCounts,
 }
 
 // What was read of a pair: its address and area, and how many content bytes and fragments it has.
-#[derive(Drop)]
+#[derive(Clone, Copy)]
 pub struct Seen {
     pub address: u32,
     pub area: u32,

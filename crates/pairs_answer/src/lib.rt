@@ -1,4 +1,6 @@
 // The answer about the T and R records of a text: its type, its numbers for C, and what a text that is not admitted is answered.
+#![tactic(auto)]
+
 ghost use Rattle.std.specs.Prelude.{◌≡◌};
 ghost use Rattle.pairs_answer.specs.Told.{told, unlaid};
 ghost use Rattle.pairs_answer.specs.Numbers.{pairs_numbers};
@@ -7,7 +9,7 @@ use admission::Gate;
 use pair_rows::PairCounts;
 
 // A refusal with its number and place, or the counts.
-#[derive(Drop)]
+#[derive(Clone, Copy)]
 pub enum PairsAnswer {
     Refusal { number: u32, place: usize },
     Accepted { counts: PairCounts },
@@ -15,7 +17,7 @@ pub enum PairsAnswer {
 
 // A refusal's number and place; or 0, and how many pairs, content bytes and fragments there are.
 #[repr(C)]
-#[derive(Drop)]
+#[derive(Clone, Copy)]
 pub struct PairsNumbers {
     pub refusal: u32,
     pub place: usize,

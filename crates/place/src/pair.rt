@@ -14,7 +14,7 @@ use sites::{Filled, Line, Site};
 use work::{Worked, work_line};
 
 // How many fixup rows there are then, and the known bits of the area; a refusal's number with the T line's place; or that the numbers do not fit.
-#[derive(Drop)]
+#[derive(Clone, Copy)]
 pub enum Placed {
     Done(usize, usize),
     Stopped(u32, usize),

@@ -1,4 +1,6 @@
 // Places the code of an object module at chosen addresses: place_at [-b] area ID ADDRESS .. symbol NAME ADDRESS .., with the module on standard input.
+#![tactic(auto)]
+
 mod module;
 mod told;
 
@@ -8,7 +10,7 @@ use module::Asked;
 use rooms::INPUT_ROOM;
 
 // What the first argument asks for.
-#[derive(Drop)]
+#[derive(Clone, Copy)]
 enum First {
     Help,
     Raw,

@@ -8,7 +8,7 @@ use rooms::{AREA_ROOM, FIXUP_ROOM, IMAGE_ROOM, SYMBOL_ROOM};
 use sink::Buffer;
 
 // Where the addresses begin among so many arguments, and whether the bytes alone are asked for.
-#[derive(Drop)]
+#[derive(Clone, Copy)]
 pub(crate) struct Asked {
     pub from: usize,
     pub count: usize,

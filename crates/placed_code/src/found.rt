@@ -9,7 +9,7 @@ use rooms::{AREA_ROOM, SYMBOL_ROOM};
 use tables::{Listed, group_one};
 
 // How many areas and symbols there are, the header's order, and how many bytes an address has.
-#[derive(Drop)]
+#[derive(Clone, Copy)]
 pub(crate) struct Tabled {
     pub areas: usize,
     pub symbols: usize,

@@ -1,4 +1,6 @@
 // A module's code placed at chosen addresses.
+#![tactic(auto)]
+
 mod found;
 mod whole;
 

@@ -28,7 +28,7 @@ fn row_start(s: Sink, out: &mut Buffer, address: u64, i: usize) -> Sink {
 
 // A byte, two digits.
 fn byte(s: Sink, out: &mut Buffer, b: u8) -> Sink {
-    let shown = hex::value_and_mask(b as usize, 0);
+    let shown = hexadecimal::value_and_mask(b as usize, 0);
     sink::put(s, out, sink::first_bytes(&shown, 3))
 }
 

@@ -1,11 +1,13 @@
 // What is answered about placed code, as numbers: an enum cannot cross over to C.
+#![tactic(auto)]
+
 ghost use Rattle.std.specs.Prelude.{◌≡◌};
 ghost use Rattle.format.specs.Outcome.{fine, refused};
 ghost use Rattle.placed_numbers.specs.Numbers.{place_numbers};
 
 // A refusal's number and its place; or 0, and how many bytes were placed.
 #[repr(C)]
-#[derive(Drop)]
+#[derive(Clone, Copy)]
 pub struct PlaceNumbers {
     pub refusal: u32,
     pub place: usize,

@@ -1,4 +1,6 @@
 // The rows of a module's records placed at chosen addresses in a lent buffer; a refusal changes no byte of it.
+#![tactic(auto)]
+
 ghost use Rattle.std.specs.Prelude.{◌≡◌, min, replicate, leb, ◌&&◌};
 ghost use Rattle.format.specs.Lists.{pick};
 ghost use Rattle.std.proofs.lemmas.List.Edits.{sets};
@@ -13,7 +15,7 @@ use rooms::AREA_ROOM;
 use sites::Filled;
 
 // A refusal with its number and place, or how many bytes were placed.
-#[derive(Drop)]
+#[derive(Clone, Copy)]
 pub enum Placed {
     Refusal { number: u32, place: usize },
     Done { bytes: usize },

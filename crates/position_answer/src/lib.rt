@@ -1,10 +1,12 @@
 // What is answered about one position, and the same as numbers: an enum cannot cross over to C.
+#![tactic(auto)]
+
 ghost use Rattle.std.specs.Prelude.{◌≡◌};
 ghost use Rattle.position_answer.specs.Answer.{told};
 ghost use Rattle.position_answer.specs.Numbers.{explain_numbers};
 
 // A refusal with its number and place; that no line writes the position; or the value and mask that the last line to write it left there, and the place of its T.
-#[derive(Drop)]
+#[derive(Clone, Copy)]
 pub enum Explained {
     Refused { number: u32, place: usize },
     Unwritten,
@@ -13,7 +15,7 @@ pub enum Explained {
 
 // A refusal's number and its place; or 0, whether a line wrote the position, the place of its T, and the value and mask that it left there.
 #[repr(C)]
-#[derive(Drop)]
+#[derive(Clone, Copy)]
 pub struct ExplainNumbers {
     pub refusal: u32,
     pub written: u32,

@@ -1,4 +1,6 @@
 // The positions of a pair of areas: value or mask differ, or one side lacks the position.
+#![tactic(auto)]
+
 ghost use Rattle.std.specs.Prelude.{◌≡◌, ◌&&◌, [], ◌∷◌, ◌<◌, ◌≤◌, length, leb};
 ghost use Rattle.std.proofs.Math.Option.{some};
 ghost use Rattle.difference.specs.Module.{cells};

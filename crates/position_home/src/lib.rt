@@ -1,4 +1,6 @@
 // The home of the kept area with an id, if a position lies in its image.
+#![tactic(auto)]
+
 ghost use Rattle.std.specs.Prelude.{◌≡◌, suc, eqb};
 ghost use Rattle.position_home.specs.Homed.{home_from, home_for};
 

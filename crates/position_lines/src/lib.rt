@@ -1,4 +1,6 @@
 // What is told of one position of a text: the answer's line, the lines that it was told from, and on standard error that the module is not whole.
+#![tactic(auto)]
+
 use answer::Counts;
 use ended_answer::Answer;
 use position_answer::Explained;
@@ -6,7 +8,7 @@ use rooms::{AREA_ROOM, SYMBOL_ROOM};
 use sink::{Buffer, Sink};
 
 // An area's id and a position in it, and whether the lines are asked for.
-#[derive(Drop)]
+#[derive(Clone, Copy)]
 pub struct Asked {
     pub id: u32,
     pub position: u32,
@@ -16,7 +18,7 @@ pub struct Asked {
 // The position, its value and its mask.
 fn line(s: Sink, out: &mut Buffer, position: u32, value: u8, mask: u8) -> Sink {
     let s1 = texts::hex4(s, out, b"", position as usize);
-    let shown = hex::value_and_mask(value as usize, mask as usize);
+    let shown = hexadecimal::value_and_mask(value as usize, mask as usize);
     sink::put(s1, out, &shown)
 }
 

@@ -1,4 +1,6 @@
 // The readers of text and lines for a program in another language: bytes go in as slices, answers come back as rows of numbers.
+#![tactic(auto)]
+
 mod rows;
 
 ghost use Rattle.std.specs.Prelude.{◌≡◌};
@@ -16,7 +18,7 @@ use rows::{content_row, entry_row, head_row, line_row, number_row, place_row, re
 
 // The reason of a halt and its place; or 0, the place behind what was read, and its values, 0 where there is none.
 #[repr(C)]
-#[derive(Drop)]
+#[derive(Clone, Copy)]
 pub struct Row {
     pub reason: u64,
     pub place: u64,

@@ -9,7 +9,7 @@ use mode_step::Step;
 
 // 1 and the number that a step made, or 0 and 0 where a part was too short.
 #[repr(C)]
-#[derive(Drop)]
+#[derive(Clone, Copy)]
 pub struct StepAnswer {
     pub done: u32,
     pub number: u32,

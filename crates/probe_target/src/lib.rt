@@ -1,4 +1,6 @@
 // Targets for a program in Rust that holds them against the source's: one, a corrected one, one with a lent table of class numbers, and a row of them.
+#![tactic(auto)]
+
 ghost use Rattle.std.specs.Prelude.{◌≡◌, ◌%◌, min, get_or, set};
 ghost use Rattle.format.specs.Target.{target};
 ghost use Rattle.format.specs.Corrected.{corrected};
@@ -11,7 +13,7 @@ use target_asked::Answer;
 
 // The address, or the number and the place of a refusal.
 #[repr(C)]
-#[derive(Drop)]
+#[derive(Clone, Copy)]
 pub struct TargetAnswer {
     pub refused: u32,
     pub place: u64,

@@ -1,5 +1,7 @@
 // Numbers of a radix, and bytes, the usual forms of which are read at once.
 // What else may stand there is left to the readers of any length, those of `numbers`.
+#![tactic(auto)]
+
 ghost use Rattle.std.specs.Prelude.{◌≡◌};
 ghost use Rattle.format.specs.Number.{number, byte, next_byte};
 ghost use Rattle.numbers.specs.Told.{told};

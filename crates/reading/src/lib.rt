@@ -1,4 +1,6 @@
 // The whole reading of a module's text, plain, ended, or ended and of every radix: areas, symbols, images and fixups into five lent buffers, or a refusal that changes none of them.
+#![tactic(auto)]
+
 ghost use Rattle.std.specs.Prelude.{false, true};
 ghost use Rattle.format.specs.Held.{Meets};
 ghost use Rattle.any_radix.specs.ReadAny.{MeetsAny};

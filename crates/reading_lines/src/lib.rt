@@ -1,4 +1,6 @@
 // The lines of a module's text behind its header: both groups, and what they leave in the lent buffers.
+#![tactic(auto)]
+
 ghost use Rattle.std.specs.Prelude.{length};
 ghost use Rattle.header.specs.Told.{form_of};
 ghost use Rattle.answer.specs.Answer.{held};

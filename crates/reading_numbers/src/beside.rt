@@ -13,7 +13,7 @@ use ended_answer::{Answer, Verdict};
 // The numbers of a reading; of one that stopped why, 1 to 4, and the place where the line came to a halt; and of an accepted
 // one 1 if the H line's counts equal the counted lines, 2 if they do not, 3 if none are told.
 #[repr(C)]
-#[derive(Drop)]
+#[derive(Clone, Copy)]
 pub struct EndedNumbers {
     pub refusal: u32,
     pub finished: u32,

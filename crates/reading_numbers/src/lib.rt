@@ -1,4 +1,6 @@
 // A reading's answer as numbers: an enum cannot cross over to C.
+#![tactic(auto)]
+
 ghost use Rattle.std.specs.Prelude.{◌≡◌};
 ghost use Rattle.answer.specs.Answer as reads;
 ghost use Rattle.reading_numbers.specs.Numbers.{accepted_numbers, counted_numbers, read_numbers, refused_numbers};
@@ -11,7 +13,7 @@ pub use beside::{EndedNumbers, ended_numbers};
 // A reading's answer: a refusal's number and its place; or 0, how much there is, and 1 for finished,
 // or 0 and the place of the next byte.
 #[repr(C)]
-#[derive(Drop)]
+#[derive(Clone, Copy)]
 pub struct ReadNumbers {
     pub refusal: u32,
     pub finished: u32,

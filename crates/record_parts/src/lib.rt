@@ -1,4 +1,6 @@
 // What the rows of T and R records say: a pair's numbers, and its fragments as three columns, which is how placing takes them.
+#![tactic(auto)]
+
 ghost use Rattle.std.specs.Prelude.{◌≡◌, min, ◌≤◌, ◌<◌, ◌+◌, length};
 ghost use Rattle.std.proofs.lemmas.List.Edits.{sets};
 ghost use Rattle.record_parts.specs.Columns.{line_from, column, Three, ThreeAt};

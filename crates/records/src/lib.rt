@@ -1,4 +1,6 @@
 // The T and R records of a module's text as rows in three lent buffers, or a refusal that changes none of them.
+#![tactic(auto)]
+
 ghost use Rattle.record_rows.specs.ReadPairs.{PairsMeet};
 ghost use Rattle.any_radix.specs.PairsAny.{PairsMeetAny};
 ghost use Rattle.pair_rows.specs.Rows.{held};

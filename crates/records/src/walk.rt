@@ -15,7 +15,7 @@ use pair_walk::{Seen, Walked, store_here};
 use steps::{Body, PairStep, pair_step};
 
 // The walk goes on, or is over.
-#[derive(Drop)]
+#[derive(Clone, Copy)]
 enum Turn {
     Goes { walked: Walked },
     Done,

@@ -1,4 +1,6 @@
 // What a fragment refers to: a symbol of another module, or a kept area of this one.
+#![tactic(auto)]
+
 ghost use Rattle.std.specs.Prelude.{◌≡◌, ℕ, ◌<◌};
 ghost use Rattle.std.proofs.Math.Option.{Option, some};
 ghost use Rattle.format.specs.Outcome.{fine};
@@ -17,7 +19,7 @@ use rooms::SYMBOL_WIDTH;
 use sites::Filled;
 
 // 1 for an outside symbol, its name's place and length; or 0, a kept area's id, and 0; and a value.
-#[derive(Drop)]
+#[derive(Clone, Copy)]
 pub struct Reference {
     pub outside: u32,
     pub what: u32,
@@ -26,7 +28,7 @@ pub struct Reference {
 }
 
 // That a symbol is needed that is not in the table, that there is no reference, or the reference.
-#[derive(Drop)]
+#[derive(Clone, Copy)]
 pub enum Refers {
     Missing,
     Nothing,

@@ -1,4 +1,6 @@
 // The address that a fragment refers to, by addresses chosen for kept areas and for outside symbols.
+#![tactic(auto)]
+
 ghost use Rattle.std.specs.Prelude.{◌≡◌, ℕ, get_or};
 ghost use Rattle.laws.specs.Rows.{fragment};
 ghost use Rattle.references.specs.References.{told, refers as refers_of, refers_in};
@@ -10,7 +12,7 @@ use sites::Filled;
 use target_words::add64;
 
 // An address, or that no kept area and no outside symbol is referred to.
-#[derive(Drop)]
+#[derive(Clone, Copy)]
 pub enum Address {
     Nothing,
     At(u64),

@@ -1,4 +1,6 @@
 // The halt of the line behind a T line: its area's index, and then the fragment that is due.
+#![tactic(auto)]
+
 ghost use Rattle.std.specs.Prelude.{◌≡◌, length};
 ghost use Rattle.format.specs.Got.{many};
 ghost use Rattle.format.specs.Pairs.{fragment};

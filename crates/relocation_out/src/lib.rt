@@ -1,4 +1,6 @@
 // Fragments and R lines written into a lent text.
+#![tactic(auto)]
+
 ghost use Rattle.std.specs.Prelude.{◌≡◌, [], ◌∷◌, ◌%◌, ◌<◌, ◌≤◌};
 ghost use Rattle.manual.specs.WrittenPairs.{shortest};
 ghost use Rattle.written.specs.Shapes.{hex_bytes};

@@ -4,6 +4,8 @@
 // ended reading. A record is the text's length, then for the plain and for the ended reading the refusal
 // or 0, the place or 0 (four bytes each, lowest first) and a sum over verdict, counts and rows (eight
 // bytes, 0 for a refusal), then the text.
+#![tactic(auto)]
+
 mod record;
 mod sum;
 
@@ -15,7 +17,7 @@ use rooms::{AREA_ROOM, FIXUP_ROOM, IMAGE_ROOM, INPUT_ROOM, SYMBOL_ROOM};
 const ROOM: usize = INPUT_ROOM;
 
 // How many answers were held to the recorded ones, and how many were not the same.
-#[derive(Drop)]
+#[derive(Clone, Copy)]
 struct Tally {
     answers: u64,
     differ: u64,

@@ -2,7 +2,7 @@
 ghost use Rattle.std.specs.Prelude.{◌^◌, ◌<◌};
 
 // A recorded answer: the refusal or 0, the place or 0, and the sum.
-#[derive(Drop)]
+#[derive(Clone, Copy)]
 pub(crate) struct Told {
     pub(crate) refusal: u64,
     pub(crate) place: u64,
@@ -10,7 +10,7 @@ pub(crate) struct Told {
 }
 
 // Whether there is a record, its text's length, and both answers.
-#[derive(Drop)]
+#[derive(Clone, Copy)]
 pub(crate) struct Record {
     pub(crate) there: bool,
     pub(crate) length: usize,

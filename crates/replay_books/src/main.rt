@@ -1,5 +1,7 @@
 // Holds opening and finding to recorded answers and prints how many differ. The sample on standard input was made by
 // `oracle/book/book sample 1`: books, every cut and changed bytes of them, told by a second writing of the rules and not by the proved code.
+#![tactic(auto)]
+
 mod record;
 
 use book_find::Found;
@@ -10,7 +12,7 @@ use record::Case;
 const ROOM: usize = 327680;
 
 // How many answers were held to the recorded ones, and how many were not the same.
-#[derive(Drop)]
+#[derive(Clone, Copy)]
 struct Tally {
     answers: u64,
     differ: u64,

@@ -2,7 +2,7 @@
 ghost use Rattle.std.specs.Prelude.{◌^◌, ◌<◌};
 
 // A recorded answer: the name's length; 0 where the file opens, else 21 or 22; how many entries, or the place; 0 or 23 for the name, and where its pattern stands and its size.
-#[derive(Drop)]
+#[derive(Clone, Copy)]
 pub(crate) struct Case {
     pub(crate) name: usize,
     pub(crate) number: u64,
@@ -13,7 +13,7 @@ pub(crate) struct Case {
 }
 
 // Whether there is a record, the length of its file and its name together, and the answer.
-#[derive(Drop)]
+#[derive(Clone, Copy)]
 pub(crate) struct Record {
     pub(crate) there: bool,
     pub(crate) length: usize,

@@ -1,5 +1,7 @@
 // Writes each module that an argument names as X behind its name, or what is answered instead. The stored run has modules of each
 // radix and order, whole, cut, without a line end and refused; standard input of `convert` holds only one.
+#![tactic(auto)]
+
 use console::{Input, Room};
 use convert_answer::Converted;
 use convert_module::convert;

@@ -1,5 +1,7 @@
 // Holds the halt and the H line's counts to recorded answers and prints how many differ. The sample on standard input was made by
 // `oracle/halts/halts sample 1`: damaged lines and texts of every class, told by a second writing of the rules and not by the proved code.
+#![tactic(auto)]
+
 mod record;
 
 use counts_of::Counted;
@@ -11,7 +13,7 @@ use rooms::INPUT_ROOM;
 const ROOM: usize = INPUT_ROOM;
 
 // How many answers were held to the recorded ones, and how many were not the same.
-#[derive(Drop)]
+#[derive(Clone, Copy)]
 struct Tally {
     answers: u64,
     differ: u64,

@@ -2,7 +2,7 @@
 ghost use Rattle.std.specs.Prelude.{◌^◌, ◌<◌};
 
 // A recorded answer: the stop, the reason (0 where the reading is finished) and the halt's place, the counted A and S lines, and what the H line says.
-#[derive(Drop)]
+#[derive(Clone, Copy)]
 pub(crate) struct Case {
     pub(crate) stop: usize,
     pub(crate) reason: u64,
@@ -13,7 +13,7 @@ pub(crate) struct Case {
 }
 
 // Whether there is a record, its text's length, and the answer.
-#[derive(Drop)]
+#[derive(Clone, Copy)]
 pub(crate) struct Record {
     pub(crate) there: bool,
     pub(crate) length: usize,

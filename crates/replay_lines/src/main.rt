@@ -2,6 +2,8 @@
 // The sample in `stdin` was recorded from the Rust by `oracle/lines/lines sample`: seeded numbers and byte lists, lines of generated modules,
 // and lines of real modules, whole, cut, and with one byte changed. A line of it is one case, its numbers in hex:
 // reader, radix, order, address length, whether the Rust reads the text, the bytes used, five values, and the text's bytes.
+#![tactic(auto)]
+
 mod answers;
 mod cases;
 mod sums;
@@ -9,7 +11,7 @@ mod sums;
 use rooms::{INPUT_ROOM, TEXT_ROOM};
 
 // Whether a text is read, the bytes used, and five values.
-#[derive(Drop)]
+#[derive(Clone, Copy)]
 pub struct Answer {
     pub taken: u64,
     pub used: u64,
@@ -21,7 +23,7 @@ pub struct Answer {
 }
 
 // How many cases there were, and how many of them differ.
-#[derive(Drop)]
+#[derive(Clone, Copy)]
 pub struct Counts {
     pub cases: usize,
     pub differ: usize,

@@ -1,5 +1,7 @@
 // Holds the rows of T and R records to recorded answers and prints how many differ. The sample on standard input was made by
 // `oracle/write/pairs sample 1`: texts of every class, told by a second writing of the rules and not by the proved code.
+#![tactic(auto)]
+
 mod record;
 mod sums;
 
@@ -12,7 +14,7 @@ use rooms::INPUT_ROOM;
 const ROOM: usize = INPUT_ROOM;
 
 // How many answers were held to the recorded ones, and how many were not the same.
-#[derive(Drop)]
+#[derive(Clone, Copy)]
 struct Tally {
     answers: u64,
     differ: u64,

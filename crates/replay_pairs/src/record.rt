@@ -2,7 +2,7 @@
 ghost use Rattle.std.specs.Prelude.{◌^◌, ◌<◌};
 
 // A recorded answer: the refusal's number (0 where the text is accepted) and place, how many pairs, content bytes and fragments there are, and a sum over all their numbers.
-#[derive(Drop)]
+#[derive(Clone, Copy)]
 pub(crate) struct Case {
     pub(crate) number: u64,
     pub(crate) place: u64,
@@ -13,7 +13,7 @@ pub(crate) struct Case {
 }
 
 // Whether there is a record, its text's length, and the answer.
-#[derive(Drop)]
+#[derive(Clone, Copy)]
 pub(crate) struct Record {
     pub(crate) there: bool,
     pub(crate) length: usize,

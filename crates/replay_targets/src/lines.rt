@@ -1,13 +1,13 @@
 // One line: what the Rust answered, held against the port's answer.
 ghost use Rattle.std.specs.Prelude.{◌≤◌};
 
-use crate::hex::{at, byte, four, number, short};
+use crate::hexadecimal::{at, byte, four, number, short};
 use mode::{Jump, JumpType};
 use mode_step::Step;
 use target_asked::Answer;
 
 // 1 if the port's answer differs, and how many bytes the line has.
-#[derive(Drop)]
+#[derive(Clone, Copy)]
 pub(crate) struct Line {
     pub(crate) differs: u64,
     pub(crate) width: usize,

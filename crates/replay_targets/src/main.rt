@@ -1,13 +1,15 @@
 // Replays answers of the unchanged Rust: classes, mode steps and targets, one a line, and says how many there were and how many differ.
 // The sample in `stdin` was printed by `oracle/targets/run record 1`: every mode's class and size, 512 mode steps on four random entries,
 // and a target of every mode with a random order, number, address and bytes, half of the numbers and a quarter of the addresses at edges.
+#![tactic(auto)]
+
 ghost use Rattle.std.specs.Prelude.{◌<◌, ◌≤◌};
 
 mod hex;
 mod lines;
 
 // How many answers were replayed, and how many of them differ.
-#[derive(Drop)]
+#[derive(Clone, Copy)]
 struct Sum {
     answers: u64,
     differ: u64,

@@ -9,7 +9,7 @@ use sink::{Buffer, Sink};
 use totals::Totals;
 
 // What waits to be written, and the totals so far.
-#[derive(Drop)]
+#[derive(Clone, Copy)]
 pub(crate) struct Tally {
     pub(crate) sink: Sink,
     pub(crate) totals: Totals,

@@ -12,7 +12,7 @@ use totals::{Figures, Totals};
 type Image = [u8; IMAGE_ROOM];
 
 // A refusal; or the module's own totals and its positions by kind, with its verdict and the H line's word.
-#[derive(Drop)]
+#[derive(Clone, Copy)]
 pub(crate) enum Said {
     Refused {
         number: u32,
@@ -27,7 +27,7 @@ pub(crate) enum Said {
 }
 
 // A refusal; or how many positions there are, how many no line writes, and how many there are of each kind.
-#[derive(Drop)]
+#[derive(Clone, Copy)]
 enum Mapped {
     Refused {
         number: u32,

@@ -5,7 +5,7 @@ use sink::{Buffer, Sink};
 use totals::Totals;
 
 // What waits to be written and the totals, where the input is, how many names were taken, whether each has a second line, and whether a page is asked for.
-#[derive(Drop)]
+#[derive(Clone, Copy)]
 struct Going {
     tally: Tally,
     cursor: Cursor,
@@ -15,7 +15,7 @@ struct Going {
 }
 
 // How it goes on: with the next line, or not.
-#[derive(Drop)]
+#[derive(Clone, Copy)]
 enum Turn {
     On(Going),
     Done(Tally),

@@ -4,7 +4,7 @@ use crate::names::named;
 use sink::{Buffer, Sink};
 
 // What is asked for: the report, with a second line for each name or not and as a page or not; the help; or what is not known, by the argument's number.
-#[derive(Drop)]
+#[derive(Clone, Copy)]
 enum Request {
     Work { pairs: bool, page: bool },
     Help,
@@ -12,7 +12,7 @@ enum Request {
 }
 
 // What an argument is.
-#[derive(Drop)]
+#[derive(Clone, Copy)]
 enum Word {
     Pairs,
     Page,

@@ -1,4 +1,5 @@
 // How long a row of each table is, and how much room a reading needs: the bounds that no accepted text passes.
+#![tactic(auto)]
 
 // Numbers in a row of the area table.
 pub const AREA_WIDTH: usize = 7;

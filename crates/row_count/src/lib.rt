@@ -1,4 +1,6 @@
 // How many fixup rows there are behind a fragment: 11, 12 and 13 as one fragment meets them; and by how much the position grows behind an entry.
+#![tactic(auto)]
+
 ghost use Rattle.std.specs.Prelude.{◌≡◌, eqb, get_or};
 ghost use Rattle.format.specs.Lists.{pick};
 ghost use Rattle.row_count.specs.Count.{OneMore, CountedFor};
@@ -7,7 +9,7 @@ use cells::{byte_at, wide};
 use references::Refers;
 
 // A refusal's number, or how many fixup rows there are.
-#[derive(Drop)]
+#[derive(Clone, Copy)]
 pub enum RowCount {
     Refused(u32),
     Rows(usize),

@@ -1,4 +1,6 @@
 // Parts of a lent text or image, the numbers of a row, and rows that stand together; for any rows and any text.
+#![tactic(auto)]
+
 mod cell;
 mod range;
 

@@ -1,5 +1,7 @@
 // The line at a place of a text as it is shown to a person: its number, the part of it that fits on a terminal, and its bytes,
 // one column each, made safe.
+#![tactic(auto)]
+
 ghost use Rattle.std.specs.Prelude.{◌≡◌, map, ◌-◌, max, eqb, take};
 ghost use Rattle.format.specs.Lists.{pick};
 ghost use Rattle.sink.specs.Sinks.{Adds};
@@ -9,7 +11,7 @@ use scan::Kind;
 use sink::{Buffer, Sink};
 
 // Where a line begins and ends, and the part of it that is shown.
-#[derive(Drop)]
+#[derive(Clone, Copy)]
 pub struct Window {
     pub start: usize,
     pub from: usize,

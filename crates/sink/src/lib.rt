@@ -1,4 +1,6 @@
 // Buffered output, and parts of lent bytes.
+#![tactic(auto)]
+
 mod output;
 mod part;
 

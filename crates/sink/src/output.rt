@@ -8,7 +8,7 @@ use libc::STDOUT_FILENO;
 pub type Buffer = [u8; 65536];
 
 // How many bytes wait at the start of the buffer, and whether a write has failed.
-#[derive(Drop)]
+#[derive(Clone, Copy)]
 pub struct Sink {
     pub used: usize,
     pub broken: bool,

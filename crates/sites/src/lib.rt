@@ -1,4 +1,6 @@
 // A T and R pair's numbers and its site, and whether they are within the bounds.
+#![tactic(auto)]
+
 ghost use Rattle.std.specs.Prelude.{◌≡◌, ◌&&◌};
 ghost use Rattle.sites.specs.Site.{line_fits, filled_fits, is_ready};
 
@@ -6,7 +8,7 @@ use cells::wide;
 use rooms::{FIXUP_ROOM, IMAGE_ROOM};
 
 // A pair's numbers: the header's order and address length, the T line's place and address, how many content bytes and fragments, and the area's index.
-#[derive(Drop)]
+#[derive(Clone, Copy)]
 pub struct Line {
     pub big: bool,
     pub width: usize,
@@ -18,7 +20,7 @@ pub struct Line {
 }
 
 // How far it is filled: the rows of areas, of symbols and of fixups that there are, and the known bits of the area of a pair.
-#[derive(Drop)]
+#[derive(Clone, Copy)]
 pub struct Filled {
     pub areas: usize,
     pub symbols: usize,
@@ -27,7 +29,7 @@ pub struct Filled {
 }
 
 // Where a pair goes: its line, the counts of rows, the id of its area, where the image starts, its size, and how many numbers its fragments made.
-#[derive(Drop)]
+#[derive(Clone, Copy)]
 pub struct Site {
     pub line: Line,
     pub filled: Filled,

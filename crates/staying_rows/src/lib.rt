@@ -1,4 +1,6 @@
 // The rows of the symbols that stay.
+#![tactic(auto)]
+
 mod rows;
 
 pub use rows::keep_rows;

@@ -10,7 +10,7 @@ use header::Form;
 use line_step::{LineStep, line_step};
 
 // What a line does to group one: it stops it, or is taken; then where its record ends, where the next line begins, and whether the reading goes on there.
-#[derive(Drop)]
+#[derive(Clone, Copy)]
 pub enum EntryStep {
     Stops,
     Takes {

@@ -14,7 +14,7 @@ use pair_places::{PairPlaces, pair_places};
 use text_lines::LineAt;
 
 // What a pair is. Its content stands in the lent bytes, its fragments in the lent columns.
-#[derive(Drop)]
+#[derive(Clone, Copy)]
 pub enum Body {
     Skipped,
     Placed {
@@ -26,14 +26,14 @@ pub enum Body {
 }
 
 // A pair with how many bytes of the text it used, or none.
-#[derive(Drop)]
+#[derive(Clone, Copy)]
 enum PairLine {
     Pair { body: Body, used: usize },
     NoPair,
 }
 
 // What two lines do to group two: they end it, or are taken; then where their record ends, where the next line begins, and whether the reading goes on there.
-#[derive(Drop)]
+#[derive(Clone, Copy)]
 pub enum PairStep {
     Ends,
     Takes {

@@ -1,4 +1,6 @@
 // Takes symbols out of an object module: strip [--] NAME..., with the module on standard input.
+#![tactic(auto)]
+
 mod module;
 mod names;
 mod told;

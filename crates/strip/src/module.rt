@@ -13,7 +13,7 @@ use staying_rows::keep_rows;
 use written_answer::Written;
 
 // How many arguments there are, and where the options end.
-#[derive(Drop)]
+#[derive(Clone, Copy)]
 pub(crate) struct Asked {
     pub end: usize,
     pub count: usize,

@@ -1,4 +1,6 @@
 // The symbols: first in the order of the older's rows, then those that only the newer has.
+#![tactic(auto)]
+
 ghost use Rattle.std.specs.Prelude.{◌≡◌, [], ◌∷◌, ◌++◌, ◌<◌, ◌≤◌, replicate};
 ghost use Rattle.name_index.specs.Index.{indexed};
 ghost use Rattle.change_rows.specs.Room.{few_of};

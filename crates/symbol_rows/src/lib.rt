@@ -1,4 +1,6 @@
 // What a symbol's row says, and which symbols belong to an area.
+#![tactic(auto)]
+
 mod range;
 mod symbol;
 

@@ -9,7 +9,7 @@ use rooms::{AREA_ROOM, SYMBOL_ROOM, TEXT_ROOM};
 use steps::{EntryStep, entry_step};
 
 // How many areas and symbols there are, where group two begins if there is more, and where the last record ended.
-#[derive(Drop)]
+#[derive(Clone, Copy)]
 pub struct Found {
     pub areas: usize,
     pub symbols: usize,
@@ -19,7 +19,7 @@ pub struct Found {
 }
 
 // What was found; or the refusal of a line; or that the text is longer than 65,536 bytes, and nothing is read.
-#[derive(Drop)]
+#[derive(Clone, Copy)]
 pub enum Listed {
     Done { found: Found },
     Refused { number: u32, at: usize },

@@ -1,4 +1,6 @@
 // The target of a fixup, as ported.
+#![tactic(auto)]
+
 mod answer;
 mod ported;
 

@@ -1,4 +1,6 @@
 // A target's answer, and refusal 14: what a target may be asked of.
+#![tactic(auto)]
+
 ghost use Rattle.std.specs.Prelude.{◌≡◌};
 ghost use Rattle.format.specs.Outcome as outcome;
 ghost use Rattle.mode.specs.Class.{told_class};
@@ -7,7 +9,7 @@ ghost use Rattle.target_asked.specs.Asked.{allowed, told};
 use mode::JumpType;
 
 // The address that a fixup's bytes refer to, or a refusal with its number and place.
-#[derive(Drop)]
+#[derive(Clone, Copy)]
 pub enum Answer {
     At(u64),
     Refused { number: u32, place: u64 },

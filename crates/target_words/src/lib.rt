@@ -1,4 +1,6 @@
 // Numbers of 64 bits, and what a target reads of a mode and of the bytes on site.
+#![tactic(auto)]
+
 mod site;
 mod word;
 

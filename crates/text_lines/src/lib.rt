@@ -1,11 +1,13 @@
 // The line at a place of a text, found by eight bytes at once.
+#![tactic(auto)]
+
 ghost use Rattle.std.specs.Prelude.{◌+◌, ◌≤◌, length};
 ghost use Rattle.text_lines.specs.Lines.{LineIs, High, Eight, OneLine};
 
 use scan::Kind;
 
 // A line: where its bytes end, how long the full line end behind them is, and the place behind both.
-#[derive(Drop)]
+#[derive(Clone, Copy)]
 pub struct LineAt {
     pub end: usize,
     pub ends: usize,

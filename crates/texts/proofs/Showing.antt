@@ -12,7 +12,7 @@ use lib.ListN.{length, take, get_or}
 use lib.Seq.{take-suc, take_all}
 use borrow.Author.Rules.{rules}
 use borrow.Author.Tests.{lt-ltb, le-ltb}
-use Rattle.hex.specs.Hex.{escaped}
+use Rattle.hexadecimal.specs.Hex.{escaped}
 use Rattle.sink.specs.declared.output.Sink.{Sink}
 use Rattle.texts.specs.Names.{control, shown_byte, shown}
 use Rattle.sink.specs.Sinks.{behind, Adds}

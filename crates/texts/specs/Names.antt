@@ -1,7 +1,7 @@
 -- Names as they are shown.
 -- Assumes nothing.
 use Rattle.std.specs.Prelude.{ℕ, Bool, cond, ◌||◌, List, [], ◌∷◌, ◌++◌, ltb, eqb}
-use Rattle.hex.specs.Hex.{escaped}
+use Rattle.hexadecimal.specs.Hex.{escaped}
 
 -- below 32, and 127
 abbrev pub control : ℕ → Bool

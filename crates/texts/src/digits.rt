@@ -1,6 +1,6 @@
 // Words and numbers: decimal, and hex of a fixed width in capitals.
 ghost use Rattle.std.specs.Prelude.{◌++◌};
-ghost use Rattle.hex.specs.Hex.{hex_digits};
+ghost use Rattle.hexadecimal.specs.Hex.{hex_digits};
 ghost use Rattle.sink.specs.Sinks.{Adds, AddsDecimal};
 
 use sink::{Buffer, Sink};
@@ -20,7 +20,7 @@ pub fn hex3(s: Sink, out: &mut Buffer, word: &[u8], n: usize) -> Sink
     ensures { Adds s out.old (word.now ++ hex_digits 3 n) result out.new }
 {
     let t = sink::put(s, out, word);
-    sink::put(t, out, &hex::three(n))
+    sink::put(t, out, &hexadecimal::three(n))
 }
 
 // A word and a position, in four digits.
@@ -28,7 +28,7 @@ pub fn hex4(s: Sink, out: &mut Buffer, word: &[u8], n: usize) -> Sink
     ensures { Adds s out.old (word.now ++ hex_digits 4 n) result out.new }
 {
     let t = sink::put(s, out, word);
-    sink::put(t, out, &hex::four(n))
+    sink::put(t, out, &hexadecimal::four(n))
 }
 
 // A word and a fixup's number, in six digits.
@@ -36,7 +36,7 @@ pub fn hex6(s: Sink, out: &mut Buffer, word: &[u8], n: usize) -> Sink
     ensures { Adds s out.old (word.now ++ hex_digits 6 n) result out.new }
 {
     let t = sink::put(s, out, word);
-    sink::put(t, out, &hex::six(n))
+    sink::put(t, out, &hexadecimal::six(n))
 }
 
 // A word and a value or a base, in eight digits.
@@ -44,5 +44,5 @@ pub fn hex8(s: Sink, out: &mut Buffer, word: &[u8], n: usize) -> Sink
     ensures { Adds s out.old (word.now ++ hex_digits 8 n) result out.new }
 {
     let t = sink::put(s, out, word);
-    sink::put(t, out, &hex::eight(n))
+    sink::put(t, out, &hexadecimal::eight(n))
 }

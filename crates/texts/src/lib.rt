@@ -1,4 +1,6 @@
 // Words, numbers and names added to what waits to be written: decimal and hex digits, and names shown safely.
+#![tactic(auto)]
+
 mod digits;
 mod names;
 

@@ -20,7 +20,7 @@ fn shown_byte(s: Sink, out: &mut Buffer, byte: u8) -> Sink
     ensures { Adds s out.old (shown_byte byte) result out.new }
 {
     if is_control(byte) {
-        return sink::put(s, out, &hex::escape(byte as usize));
+        return sink::put(s, out, &hexadecimal::escape(byte as usize));
     }
     sink::put(s, out, &[byte])
 }

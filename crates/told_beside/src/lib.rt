@@ -1,5 +1,7 @@
 // What is told beside a reading's counts and verdict: why and where one that stopped came to a halt, and what the H line says of
 // the counts. It looks at the text once more, behind a header line that ends at head.
+#![tactic(auto)]
+
 ghost use Rattle.std.specs.Prelude.{◌≡◌};
 ghost use Rattle.header.specs.Told.{form_of};
 ghost use Rattle.line_halt.specs.Told.{told_halt};

@@ -1,4 +1,6 @@
 // The totals of a library: how many modules were read and how they ended, and the sums of their figures, each of 64 bits.
+#![tactic(auto)]
+
 ghost use Rattle.std.specs.Prelude.{◌≡◌, nat_lt};
 ghost use Rattle.format.specs.Lists.{pick};
 ghost use Rattle.format.specs.Target.{wrap_add};
@@ -8,7 +10,7 @@ ghost use Rattle.totals.specs.Totals.{of_module, of_none, of_refused, plus, plus
 use figures::Classes;
 
 // Modules that were read and that were refused; of the first those that are finished, stopped, and whose counts are not equal.
-#[derive(Drop)]
+#[derive(Clone, Copy)]
 pub struct Verdicts {
     pub modules: u64,
     pub refused: u64,
@@ -18,7 +20,7 @@ pub struct Verdicts {
 }
 
 // Kept areas, their positions, the positions that no line writes, known bits and fixups.
-#[derive(Drop)]
+#[derive(Clone, Copy)]
 pub struct Figures {
     pub kept: u64,
     pub positions: u64,
@@ -28,7 +30,7 @@ pub struct Figures {
 }
 
 // All of them, of one module or of many.
-#[derive(Drop)]
+#[derive(Clone, Copy)]
 pub struct Totals {
     pub verdicts: Verdicts,
     pub figures: Figures,

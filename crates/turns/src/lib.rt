@@ -1,4 +1,6 @@
 // Where group two is, and the answers of a turn.
+#![tactic(auto)]
+
 ghost use Rattle.std.specs.Prelude.{◌≡◌};
 ghost use Rattle.turns.specs.Turns.{ending_of, after_of, stepped_of, standing_in, turn_of, two_of};
 
@@ -6,14 +8,14 @@ use homes::Home;
 use sites::Line;
 
 // How placing stands: so many fixup rows are made; or a refusal bars it, to be given if no 7 or 8 follows.
-#[derive(Drop)]
+#[derive(Clone, Copy)]
 pub enum Standing {
     Made { fixups: usize },
     Barred { number: u32, place: usize },
 }
 
 // Where group two is: how many areas, symbols and positions there are, where the next line begins, where the last record ended, how many T and R pairs there were, whether the reading goes on, how placing stands, and the home of the area of the last pair that was placed.
-#[derive(Drop)]
+#[derive(Clone, Copy)]
 pub struct Progress {
     pub areas: usize,
     pub symbols: usize,
@@ -27,7 +29,7 @@ pub struct Progress {
 }
 
 // How many T and R pairs there are, where the records end, and how many fixup rows are made; or a refusal.
-#[derive(Drop)]
+#[derive(Clone, Copy)]
 pub enum Paired {
     All {
         lines: usize,
@@ -41,14 +43,14 @@ pub enum Paired {
 }
 
 // A turn of group two: it goes on, or is done.
-#[derive(Drop)]
+#[derive(Clone, Copy)]
 pub enum Turn {
     Goes { going: Progress },
     Done { two: Paired },
 }
 
 // What is to be done with a pair: nothing more, or it is placed.
-#[derive(Drop)]
+#[derive(Clone, Copy)]
 pub enum Plan {
     Leave { turn: Turn },
     Place { line: Line, going: Progress },

@@ -1,11 +1,13 @@
 // A fragment in the usual form, as modules have it: mode, entry and index in capital digits of radix 16, two a byte, one space before each byte.
 // It is a fast way: where it answers, the answer is the definition's; where it does not, nothing is said, and the reader of any form is asked.
+#![tactic(auto)]
+
 ghost use Rattle.std.specs.Prelude.{◌≡◌, ◌+◌, ◌*◌, ◌%◌, ◌<◌, ◌≤◌, length};
 ghost use Rattle.joined_bytes.specs.Steps.{join_step};
 ghost use Rattle.usual_fragment.specs.Usual.{triple, TailIs, UsualIs};
 
 // A fragment in the usual form and the place behind it; or another form, or none.
-#[derive(Drop)]
+#[derive(Clone, Copy)]
 pub enum Usual {
     Is {
         mode: u32,

@@ -1,4 +1,6 @@
 // The ended reading's verdict in words, as a listing has it and as standard error is told of a module that is not whole.
+#![tactic(auto)]
+
 use counts_of::Counted;
 use ended_answer::Verdict;
 use sink::{Buffer, Sink};

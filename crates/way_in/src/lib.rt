@@ -1,4 +1,6 @@
 // The way in: refusals 1 to 3, by the lengths of the lent buffers and the bytes of the text; and 18, by the header's radix.
+#![tactic(auto)]
+
 ghost use Rattle.std.specs.Prelude.{◌≡◌, ◌≤◌, length};
 ghost use Rattle.format.specs.Reading.{first_high, takes as takes_radix};
 ghost use Rattle.way_in.specs.WayIn.{high_of, Caps, roomy, fits_from, GateIs, takes_by};
@@ -6,7 +8,7 @@ ghost use Rattle.way_in.specs.WayIn.{high_of, Caps, roomy, fits_from, GateIs, ta
 use rooms::{AREA_ROOM, FIXUP_ROOM, IMAGE_ROOM, SYMBOL_ROOM, TEXT_ROOM};
 
 // How long the lent buffers are.
-#[derive(Drop)]
+#[derive(Clone, Copy)]
 pub struct Lent {
     pub areas: usize,
     pub symbols: usize,
@@ -16,7 +18,7 @@ pub struct Lent {
 }
 
 // Whether a text may be read; else the refusal with its place.
-#[derive(Drop)]
+#[derive(Clone, Copy)]
 pub enum Gate {
     Open,
     Shut { number: u32, at: usize },

@@ -1,5 +1,7 @@
 // The work line of a pair: its content, and its fragments worked in.
 // Here bs are the content bytes; ms and es the fragments' modes and entries; wv, wm and wk the work line's values, masks and kept flags; ns the numbers made.
+#![tactic(auto)]
+
 ghost use Rattle.std.specs.Prelude.{◌≡◌, List, [], ◌∷◌, ◌++◌, ℕ, ◌≤◌, ◌<◌, ◌+◌, length, take, drop, get_or};
 ghost use Rattle.format.specs.Mode.{touched_of};
 ghost use Rattle.mode.specs.Class.{told_class};
@@ -14,7 +16,7 @@ use mode_step::{Step, modify_cmf_to_fixup};
 use sites::Line;
 
 // That a fragment's entries run past the line, or how many numbers are made.
-#[derive(Drop)]
+#[derive(Clone, Copy)]
 pub enum Worked {
     Beyond,
     Numbers(usize),

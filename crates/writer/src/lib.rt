@@ -1,4 +1,6 @@
 // A module's text written from rows into a lent buffer, or a refusal that leaves the buffer as it was.
+#![tactic(auto)]
+
 ghost use Rattle.header.specs.Told.{form_of};
 ghost use Rattle.row_texts.specs.RowRecords.{lent};
 ghost use Rattle.written_answer.specs.Answer.{told};

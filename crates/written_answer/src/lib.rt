@@ -1,4 +1,6 @@
 // The answer to rows that are to be written: its type, its numbers for C, and the form that a caller's numbers ask for.
+#![tactic(auto)]
+
 ghost use Rattle.std.specs.Prelude.{◌≡◌};
 ghost use Rattle.written_answer.specs.Answer.{told};
 ghost use Rattle.written_answer.specs.Numbers.{FormIs, written_numbers, x_form};
@@ -7,7 +9,7 @@ ghost use Rattle.written_answer.specs.declared.Formed.TheVariants.{Is};
 use header::{Form, Width};
 
 // How many bytes were written, or a refusal with its number and place.
-#[derive(Drop)]
+#[derive(Clone, Copy)]
 pub enum Written {
     Refusal { number: u32, place: usize },
     Bytes { count: usize },
@@ -15,7 +17,7 @@ pub enum Written {
 
 // 15 or 16; or 0 and how many bytes were written.
 #[repr(C)]
-#[derive(Drop)]
+#[derive(Clone, Copy)]
 pub struct WrittenNumbers {
     pub refusal: u32,
     pub bytes: usize,
@@ -38,7 +40,7 @@ pub fn written_numbers(answer: Written) -> WrittenNumbers
 }
 
 // A form, or none.
-#[derive(Drop)]
+#[derive(Clone, Copy)]
 pub enum Formed {
     Is { form: Form },
     No,

@@ -1,4 +1,6 @@
 // A number that has to be 0.
+#![tactic(auto)]
+
 ghost use Rattle.std.specs.Prelude.{◌≡◌};
 ghost use Rattle.numbers.specs.Told.{told};
 ghost use Rattle.zero_only.specs.Zero.{zero_only};

@@ -5,7 +5,7 @@ use Rattle.area_line.proofs.position.Reads as reads
 use Rattle.area_line.proofs.position.Lts as lts
 use Rattle.cells.proofs.byte_at.Reads as byte-at-reads
 use Rattle.sink.proofs.put.Reads as put_reads
-use Rattle.hex.proofs.value_and_mask.Reads as value-and-mask-reads
+use Rattle.hexadecimal.proofs.value_and_mask.Reads as value-and-mask-reads
 
 byte-at-requires : tie.Need-byte-at-requires
 byte-at-requires c κs = search positions

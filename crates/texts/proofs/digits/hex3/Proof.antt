@@ -4,7 +4,7 @@ use Rattle.texts.proofs.digits.hex3.Tie as tie
 use Rattle.texts.proofs.digits.hex3.Reads as reads
 use Rattle.texts.proofs.digits.hex3.Lts as lts
 use Rattle.sink.proofs.put.Reads as put_reads
-use Rattle.hex.proofs.three.Reads as three-reads
+use Rattle.hexadecimal.proofs.three.Reads as three-reads
 
 put-requires : tie.Need-put-requires
 put-requires c κs = search texts

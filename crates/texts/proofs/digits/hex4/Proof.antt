@@ -4,7 +4,7 @@ use Rattle.texts.proofs.digits.hex4.Tie as tie
 use Rattle.texts.proofs.digits.hex4.Reads as reads
 use Rattle.texts.proofs.digits.hex4.Lts as lts
 use Rattle.sink.proofs.put.Reads as put_reads
-use Rattle.hex.proofs.four.Reads as four-reads
+use Rattle.hexadecimal.proofs.four.Reads as four-reads
 
 put-requires : tie.Need-put-requires
 put-requires c κs = search texts

@@ -4,7 +4,7 @@ use Rattle.texts.proofs.digits.hex6.Tie as tie
 use Rattle.texts.proofs.digits.hex6.Reads as reads
 use Rattle.texts.proofs.digits.hex6.Lts as lts
 use Rattle.sink.proofs.put.Reads as put_reads
-use Rattle.hex.proofs.six.Reads as six-reads
+use Rattle.hexadecimal.proofs.six.Reads as six-reads
 
 put-requires : tie.Need-put-requires
 put-requires c κs = search texts

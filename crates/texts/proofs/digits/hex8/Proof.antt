@@ -4,7 +4,7 @@ use Rattle.texts.proofs.digits.hex8.Tie as tie
 use Rattle.texts.proofs.digits.hex8.Reads as reads
 use Rattle.texts.proofs.digits.hex8.Lts as lts
 use Rattle.sink.proofs.put.Reads as put_reads
-use Rattle.hex.proofs.eight.Reads as eight-reads
+use Rattle.hexadecimal.proofs.eight.Reads as eight-reads
 
 put-requires : tie.Need-put-requires
 put-requires c κs = search texts

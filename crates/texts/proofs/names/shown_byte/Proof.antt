@@ -5,7 +5,7 @@ use Rattle.texts.proofs.names.shown_byte.Reads as reads
 use Rattle.texts.proofs.names.shown_byte.Lts as lts
 use Rattle.texts.proofs.names.is_control.Reads as is-control-reads
 use Rattle.sink.proofs.put.Reads as put_reads
-use Rattle.hex.proofs.escape.Reads as escape-reads
+use Rattle.hexadecimal.proofs.escape.Reads as escape-reads
 
 is-control-requires : tie.Need-is-control-requires
 is-control-requires c κs = search shows

@@ -1,8 +1,8 @@
--- `hex::value_and_mask` gives both in two digits: each is what `digit` ensures. Assumes nothing.
+-- `hexadecimal::value_and_mask` gives both in two digits: each is what `digit` ensures. Assumes nothing.
 use mathlib.Core.Path.{refl}
 use borrow.Author.Rules.{rules}
-use Rattle.hex.proofs.value_and_mask.Statement.{statement}
-use Rattle.hex.proofs.value_and_mask.Tie as tie
+use Rattle.hexadecimal.proofs.value_and_mask.Statement.{statement}
+use Rattle.hexadecimal.proofs.value_and_mask.Tie as tie
 
 digit-requires : tie.Need-digit-requires
 digit-requires c κs = search rules

@@ -1,8 +1,8 @@
--- `hex::escape` gives the byte in two digits: each is what `digit` ensures. Assumes nothing.
+-- `hexadecimal::escape` gives the byte in two digits: each is what `digit` ensures. Assumes nothing.
 use mathlib.Core.Path.{refl}
 use borrow.Author.Rules.{rules}
-use Rattle.hex.proofs.escape.Statement.{statement}
-use Rattle.hex.proofs.escape.Tie as tie
+use Rattle.hexadecimal.proofs.escape.Statement.{statement}
+use Rattle.hexadecimal.proofs.escape.Tie as tie
 
 digit-requires : tie.Need-digit-requires
 digit-requires c κs = search rules

@@ -1,6 +1,8 @@
 // Hex of a fixed width in capitals, as the listing writes it.
+#![tactic(auto)]
+
 ghost use Rattle.std.specs.Prelude.{◌≡◌, ◌<◌, ◌/◌, ◌%◌, length};
-ghost use Rattle.hex.specs.Hex.{capital, hex_digits, value_and_mask, escaped};
+ghost use Rattle.hexadecimal.specs.Hex.{capital, hex_digits, value_and_mask, escaped};
 
 // The digit of a number that is worth this much.
 fn digit(n: usize, worth: usize) -> u8

@@ -1,8 +1,8 @@
--- `hex::eight` gives the last eight digits: each is what `digit` ensures. Assumes nothing.
+-- `hexadecimal::eight` gives the last eight digits: each is what `digit` ensures. Assumes nothing.
 use mathlib.Core.Path.{refl}
 use borrow.Author.Rules.{rules}
-use Rattle.hex.proofs.eight.Statement.{statement}
-use Rattle.hex.proofs.eight.Tie as tie
+use Rattle.hexadecimal.proofs.eight.Statement.{statement}
+use Rattle.hexadecimal.proofs.eight.Tie as tie
 
 digit-requires : tie.Need-digit-requires
 digit-requires c κs = search rules

@@ -1,8 +1,8 @@
--- `hex::six` gives the last six digits: each is what `digit` ensures. Assumes nothing.
+-- `hexadecimal::six` gives the last six digits: each is what `digit` ensures. Assumes nothing.
 use mathlib.Core.Path.{refl}
 use borrow.Author.Rules.{rules}
-use Rattle.hex.proofs.six.Statement.{statement}
-use Rattle.hex.proofs.six.Tie as tie
+use Rattle.hexadecimal.proofs.six.Statement.{statement}
+use Rattle.hexadecimal.proofs.six.Tie as tie
 
 digit-requires : tie.Need-digit-requires
 digit-requires c κs = search rules

@@ -1,8 +1,8 @@
--- `hex::digit` gives the digit's code: below 10 by the first arm, else by the second. Assumes nothing.
+-- `hexadecimal::digit` gives the digit's code: below 10 by the first arm, else by the second. Assumes nothing.
 use borrow.Author.Rules.{rules}
 use borrow.Author.Tests.{le-ltb, lt-ltb}
-use Rattle.hex.proofs.digit.Statement.{statement}
-use Rattle.hex.proofs.digit.Tie as tie
+use Rattle.hexadecimal.proofs.digit.Statement.{statement}
+use Rattle.hexadecimal.proofs.digit.Tie as tie
 
 div-d : tie.Need-nonzero-div-d
 div-d c = search rules
