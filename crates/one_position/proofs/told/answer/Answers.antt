@@ -1,5 +1,5 @@
 use Rattle.one_position.proofs.AnswerLaws.{answering}
-use Rattle.one_position.proofs.answer.answer.Goals as goal
+use Rattle.one_position.proofs.told.answer.Goals as goal
 
 pub home_for-home-requires : goal.home_for-home-requires
 home_for-home-requires c = search answering
