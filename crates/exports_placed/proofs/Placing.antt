@@ -11,7 +11,7 @@ use Rattle.placed_rows.specs.Placed.{told}
 use Rattle.placed_code.specs.Code.{CodeIs}
 use Rattle.placed_numbers.specs.Numbers.{place_numbers}
 use Rattle.placed_numbers.specs.declared.PlaceNumbers.{PlaceNumbers}
-use Rattle.exports_records.specs.Places.{PlacesNumbers}
+use Rattle.exports_placed.specs.Places.{PlacesNumbers}
 
 module _ {e : Placed} {r : PlaceNumbers} where
   pub refused-numbers : {n p : ℕ} → e ≡ Refusal n p → r ≡ place_numbers (refused n p) → r ≡ place_numbers (told e)

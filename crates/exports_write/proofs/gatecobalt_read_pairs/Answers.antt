@@ -1,5 +1,5 @@
-use Rattle.exports_records.proofs.Writing.{reads}
-use Rattle.exports_records.proofs.gatecobalt_read_pairs.Goals as goal
+use Rattle.exports_write.proofs.Writing.{reads}
+use Rattle.exports_write.proofs.gatecobalt_read_pairs.Goals as goal
 
 pub read_pairs-requires : goal.read_pairs-requires
 read_pairs-requires c = search reads

@@ -22,7 +22,7 @@ use Rattle.written_answer.specs.Numbers.{FormIs, form_for, formed, is_width, wri
 use Rattle.written_answer.specs.declared.Formed.{Formed}
 use Rattle.written_answer.specs.declared.Formed.TheVariants.{Is, No}
 use Rattle.written_answer.specs.declared.WrittenNumbers.{WrittenNumbers}
-use Rattle.exports_records.specs.Linked.{Reads, WritesOut}
+use Rattle.exports_write.specs.Linked.{Reads, WritesOut}
 
 -- `gatecobalt_read_pairs`
 pub reads_so : (text : List ℕ) {old new : HeldPairs} {t : paper.PairsAnswer} {r : PairsNumbers} → PairsMeet text old t new → r ≡ pairs_numbers t → Reads text old r new

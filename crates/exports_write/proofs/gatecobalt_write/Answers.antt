@@ -1,5 +1,5 @@
-use Rattle.exports_records.proofs.Writing.{writes}
-use Rattle.exports_records.proofs.gatecobalt_write.Goals as goal
+use Rattle.exports_write.proofs.Writing.{writes}
+use Rattle.exports_write.proofs.gatecobalt_write.Goals as goal
 
 pub form_for-requires : goal.form_for-requires
 form_for-requires c = search writes

@@ -1,5 +1,5 @@
-use Rattle.exports_records.proofs.Placing.{numbers}
-use Rattle.exports_records.proofs.gatecobalt_place.Goals as goal
+use Rattle.exports_placed.proofs.Placing.{numbers}
+use Rattle.exports_placed.proofs.gatecobalt_place.Goals as goal
 
 pub place_code-requires : goal.place_code-requires
 place_code-requires c = search numbers

@@ -1,5 +1,5 @@
-use Rattle.exports_records.proofs.Explaining.{numbers}
-use Rattle.exports_records.proofs.gatecobalt_explain.Goals as goal
+use Rattle.exports_explain.proofs.Explaining.{numbers}
+use Rattle.exports_explain.proofs.gatecobalt_explain.Goals as goal
 
 pub explain-requires : goal.explain-requires
 explain-requires c = search numbers

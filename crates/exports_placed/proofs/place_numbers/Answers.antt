@@ -1,5 +1,5 @@
-use Rattle.exports_records.proofs.Placing.{numbers}
-use Rattle.exports_records.proofs.place_numbers.Goals as goal
+use Rattle.exports_placed.proofs.Placing.{numbers}
+use Rattle.exports_placed.proofs.place_numbers.Goals as goal
 
 pub enum_known-p : goal.enum_known-p
 enum_known-p c = search numbers
