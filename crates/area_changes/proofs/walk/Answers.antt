@@ -1,7 +1,4 @@
 use Rattle.area_changes.proofs.Sides.{lesses, rounds}
-use Rattle.area_changes.proofs.Sides.{AreasGo}
-use Rattle.laws.specs.Rows.{fixups_in}
-use Prim.Native.Nat.{◌+◌, ◌-◌}
 use Rattle.area_changes.proofs.walk.Goals as goal
 
 pub next_kept-i-requires : goal.next_kept-i-requires

@@ -1,4 +1,3 @@
-use Rattle.area_changes.proofs.Sides.{lesses, rounds}
 use Rattle.area_changes.proofs.Sides.{AreasGo}
 use Rattle.laws.specs.Rows.{fixups_in}
 use Prim.Native.Nat.{◌+◌, ◌-◌}

@@ -1,6 +1,4 @@
 use Rattle.book_find.proofs.Laws.{finding}
-use Prim.Native.Nat.{◌-◌}
-use Rattle.book.proofs.Laws.{Halving}
 use Rattle.book_find.proofs.find_name.Goals as goal
 
 pub number_at-high-requires : goal.number_at-high-requires

@@ -1,4 +1,3 @@
-use Rattle.book_find.proofs.Laws.{finding}
 use Prim.Native.Nat.{◌-◌}
 use Rattle.book.proofs.Laws.{Halving}
 use Rattle.book_find.proofs.find_name.Given as goal

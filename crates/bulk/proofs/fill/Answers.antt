@@ -1,7 +1,4 @@
 use borrow.Author.Rules.{rules}
-use Prim.Native.Nat.{◌≤◌}
-use mathlib.Core.Path.{◌≡◌}
-use lib.ListN.{length}
 use Rattle.bulk.proofs.fill.Goals as goal
 
 pub loop-turns-init : goal.loop-turns-init

@@ -1,6 +1,4 @@
 use Rattle.cells.proofs.Laws.{copying}
-use Rattle.cells.proofs.Laws.{Storing}
-use Prim.Native.Nat.{◌-◌}
 use Rattle.cells.proofs.copy_bytes.Goals as goal
 
 pub room-requires : goal.room-requires

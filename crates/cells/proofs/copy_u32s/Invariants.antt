@@ -1,4 +1,3 @@
-use Rattle.cells.proofs.Laws.{copying}
 use Rattle.cells.proofs.Laws.{Storing}
 use Prim.Native.Nat.{◌-◌}
 use Rattle.cells.proofs.copy_u32s.Given as goal

@@ -1,7 +1,4 @@
 use Rattle.cells.proofs.Laws.{filling}
-use Rattle.cells.proofs.Laws.{Storing}
-use Prim.Native.Nat.{◌-◌}
-use lib.ListN.{replicate}
 use Rattle.cells.proofs.fill_bytes.Goals as goal
 
 pub room-k-requires : goal.room-k-requires

@@ -1,4 +1,3 @@
-use Rattle.cells.proofs.Laws.{filling}
 use Rattle.cells.proofs.Laws.{Storing}
 use Prim.Native.Nat.{◌-◌}
 use lib.ListN.{replicate}

@@ -1,7 +1,4 @@
 use Rattle.code_match.proofs.Laws.{seeking}
-use Rattle.code_match.proofs.Laws.{Seeking}
-use Prim.Native.Nat.{◌-◌}
-use lib.ListN.{length}
 use Rattle.code_match.proofs.first_mismatch.Goals as goal
 
 pub loop-i-init : goal.loop-i-init

@@ -1,4 +1,3 @@
-use Rattle.code_match.proofs.Laws.{seeking}
 use Rattle.code_match.proofs.Laws.{Seeking}
 use Prim.Native.Nat.{◌-◌}
 use lib.ListN.{length}

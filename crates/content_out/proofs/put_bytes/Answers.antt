@@ -1,7 +1,4 @@
 use Rattle.content_out.proofs.Laws.{listing}
-use Prim.Native.Nat.{◌-◌}
-use lib.ListN.{length}
-use Rattle.content_out.proofs.Laws.{Listed}
 use Rattle.content_out.proofs.put_bytes.Goals as goal
 
 pub loop-i-init : goal.loop-i-init

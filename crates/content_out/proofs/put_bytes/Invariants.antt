@@ -1,4 +1,3 @@
-use Rattle.content_out.proofs.Laws.{listing}
 use Prim.Native.Nat.{◌-◌}
 use lib.ListN.{length}
 use Rattle.content_out.proofs.Laws.{Listed}

@@ -1,6 +1,4 @@
 use Rattle.covering.proofs.Laws.{seeking}
-use Rattle.covering.proofs.Laws.{Seeking}
-use Prim.Native.Nat.{◌-◌}
 use Rattle.covering.proofs.entry_of.Goals as goal
 
 pub loop-e-init : goal.loop-e-init

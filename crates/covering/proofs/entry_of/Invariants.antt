@@ -1,4 +1,3 @@
-use Rattle.covering.proofs.Laws.{seeking}
 use Rattle.covering.proofs.Laws.{Seeking}
 use Prim.Native.Nat.{◌-◌}
 use Rattle.covering.proofs.entry_of.Given as goal

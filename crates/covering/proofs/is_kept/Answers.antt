@@ -1,7 +1,4 @@
 use Rattle.covering.proofs.Laws.{keeping}
-use Rattle.covering.proofs.Laws.{Keeping}
-use Rattle.covering.specs.Covering.{in_content}
-use Prim.Native.Nat.{◌-◌}
 use Rattle.covering.proofs.is_kept.Goals as goal
 
 pub in_content-k-requires : goal.in_content-k-requires

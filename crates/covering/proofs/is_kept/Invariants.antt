@@ -1,4 +1,3 @@
-use Rattle.covering.proofs.Laws.{keeping}
 use Rattle.covering.proofs.Laws.{Keeping}
 use Rattle.covering.specs.Covering.{in_content}
 use Prim.Native.Nat.{◌-◌}

@@ -1,7 +1,4 @@
 use Rattle.digits_out.proofs.Laws.{wording}
-use Prim.Native.Nat.{◌-◌}
-use lib.ListN.{length}
-use Rattle.digits_out.proofs.Laws.{Words}
 use Rattle.digits_out.proofs.put_word.Goals as goal
 
 pub loop-i-init : goal.loop-i-init

@@ -1,4 +1,3 @@
-use Rattle.digits_out.proofs.Laws.{wording}
 use Prim.Native.Nat.{◌-◌}
 use lib.ListN.{length}
 use Rattle.digits_out.proofs.Laws.{Words}

@@ -1,6 +1,4 @@
 use Rattle.figures.proofs.Laws.{counting}
-use Rattle.figures.proofs.Laws.{Counting}
-use Prim.Native.Nat.{◌-◌}
 use Rattle.figures.proofs.count.Goals as goal
 
 pub loop-j-init : goal.loop-j-init

@@ -1,4 +1,3 @@
-use Rattle.figures.proofs.Laws.{counting}
 use Rattle.figures.proofs.Laws.{Counting}
 use Prim.Native.Nat.{◌-◌}
 use Rattle.figures.proofs.count.Given as goal

@@ -1,6 +1,4 @@
 use Rattle.figures.proofs.Laws.{adding}
-use Rattle.figures.proofs.Laws.{Adding}
-use Prim.Native.Nat.{◌-◌}
 use Rattle.figures.proofs.known_in.Goals as goal
 
 pub fewer-k-requires : goal.fewer-k-requires

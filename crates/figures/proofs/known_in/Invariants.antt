@@ -1,4 +1,3 @@
-use Rattle.figures.proofs.Laws.{adding}
 use Rattle.figures.proofs.Laws.{Adding}
 use Prim.Native.Nat.{◌-◌}
 use Rattle.figures.proofs.known_in.Given as goal

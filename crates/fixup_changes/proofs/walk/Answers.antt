@@ -1,6 +1,4 @@
 use Rattle.fixup_changes.proofs.Lacks.{walks}
-use Rattle.fixup_changes.proofs.Lacks.{FixupsGo}
-use Prim.Native.Nat.{◌-◌, ◌≤◌}
 use Rattle.fixup_changes.proofs.walk.Goals as goal
 
 pub loop-i-init : goal.loop-i-init

@@ -1,6 +1,5 @@
-use Rattle.fixup_changes.proofs.Lacks.{walks}
 use Rattle.fixup_changes.proofs.Lacks.{FixupsGo}
-use Prim.Native.Nat.{◌-◌, ◌≤◌}
+use Prim.Native.Nat.{◌-◌}
 use Rattle.fixup_changes.proofs.walk.Given as goal
 
 abbrev pub invariant-loop-i : goal.invariant-loop-i

@@ -1,6 +1,4 @@
 use Rattle.grouped.proofs.Laws.{grouping}
-use Rattle.grouped.proofs.Laws.{Grouping}
-use Prim.Native.Nat.{◌-◌}
 use Rattle.grouped.proofs.area_rows.Goals as goal
 
 pub loop-i-init : goal.loop-i-init

@@ -1,4 +1,3 @@
-use Rattle.grouped.proofs.Laws.{grouping}
 use Rattle.grouped.proofs.Laws.{Grouping}
 use Prim.Native.Nat.{◌-◌}
 use Rattle.grouped.proofs.area_rows.Given as goal

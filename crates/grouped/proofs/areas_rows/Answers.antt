@@ -1,6 +1,4 @@
 use Rattle.grouped.proofs.Laws.{ordering}
-use Rattle.grouped.proofs.Laws.{Ordering}
-use Prim.Native.Nat.{◌-◌}
 use Rattle.grouped.proofs.areas_rows.Goals as goal
 
 pub loop-id-init : goal.loop-id-init

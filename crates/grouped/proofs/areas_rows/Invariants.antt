@@ -1,4 +1,3 @@
-use Rattle.grouped.proofs.Laws.{ordering}
 use Rattle.grouped.proofs.Laws.{Ordering}
 use Prim.Native.Nat.{◌-◌}
 use Rattle.grouped.proofs.areas_rows.Given as goal

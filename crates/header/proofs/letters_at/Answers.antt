@@ -44,7 +44,7 @@ pub returns-then-not-is_length : goal.returns-then-not-is_length
 returns-then-not-is_length c = search heading
 
 pub width_of-requires : goal.width_of-requires
-width_of-requires c = length-told _ c.is_length.ensures c.if-not-is_length.false
+width_of-requires c = length-told _ c.is_length.ensures (search heading)
 
 pub overflow_add-p : goal.overflow_add-p
 overflow_add-p c = search heading

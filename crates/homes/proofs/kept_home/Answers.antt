@@ -1,5 +1,4 @@
-use Rattle.homes.proofs.Laws.{Homing, homing}
-use Prim.Native.Nat.{◌-◌}
+use Rattle.homes.proofs.Laws.{homing}
 use Rattle.homes.proofs.kept_home.Goals as goal
 
 pub loop-j-init : goal.loop-j-init

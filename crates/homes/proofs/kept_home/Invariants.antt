@@ -1,4 +1,4 @@
-use Rattle.homes.proofs.Laws.{Homing, homing}
+use Rattle.homes.proofs.Laws.{Homing}
 use Prim.Native.Nat.{◌-◌}
 use Rattle.homes.proofs.kept_home.Given as goal
 

@@ -1,5 +1,4 @@
 use Rattle.joined_bytes.proofs.Laws.Joined.{joining}
-use Rattle.joined_bytes.proofs.Laws.Joined.{Placing}
 use Rattle.joined_bytes.proofs.joined_of.Goals as goal
 
 pub parse_byte-first-requires : goal.parse_byte-first-requires

@@ -1,4 +1,3 @@
-use Rattle.joined_bytes.proofs.Laws.Joined.{joining}
 use Rattle.joined_bytes.proofs.Laws.Joined.{Placing}
 use Rattle.joined_bytes.proofs.joined_of.Given as goal
 

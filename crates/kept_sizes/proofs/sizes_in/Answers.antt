@@ -1,6 +1,4 @@
 use Rattle.kept_sizes.proofs.KeptSizes.{summing}
-use Prim.Native.Nat.{◌-◌}
-use Rattle.kept_sizes.proofs.KeptSizes.{Summing}
 use Rattle.kept_sizes.proofs.sizes_in.Goals as goal
 
 pub loop-j-init : goal.loop-j-init

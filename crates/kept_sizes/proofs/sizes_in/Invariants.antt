@@ -1,4 +1,3 @@
-use Rattle.kept_sizes.proofs.KeptSizes.{summing}
 use Prim.Native.Nat.{◌-◌}
 use Rattle.kept_sizes.proofs.KeptSizes.{Summing}
 use Rattle.kept_sizes.proofs.sizes_in.Given as goal

@@ -1,6 +1,4 @@
 use Rattle.kinds.proofs.Laws.{counting}
-use Rattle.kinds.proofs.Laws.{Counting}
-use Prim.Native.Nat.{◌-◌}
 use Rattle.kinds.proofs.count.Goals as goal
 
 pub loop-i-init : goal.loop-i-init

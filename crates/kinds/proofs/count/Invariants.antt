@@ -1,4 +1,3 @@
-use Rattle.kinds.proofs.Laws.{counting}
 use Rattle.kinds.proofs.Laws.{Counting}
 use Prim.Native.Nat.{◌-◌}
 use Rattle.kinds.proofs.count.Given as goal

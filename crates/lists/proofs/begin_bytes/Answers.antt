@@ -1,6 +1,4 @@
 use Rattle.lists.proofs.Laws.Begun.{beginning}
-use Rattle.std.proofs.Common.{◌-◌}
-use Rattle.lists.proofs.Laws.Begun.{Beginning}
 use Rattle.lists.proofs.begin_bytes.Goals as goal
 
 pub reach_of-last-requires : goal.reach_of-last-requires

@@ -1,4 +1,3 @@
-use Rattle.lists.proofs.Laws.Begun.{beginning}
 use Rattle.std.proofs.Common.{◌-◌}
 use Rattle.lists.proofs.Laws.Begun.{Beginning}
 use Rattle.lists.proofs.begin_bytes.Given as goal

@@ -1,6 +1,4 @@
-use Rattle.format.specs.Number.{next_byte}
-use Rattle.lists.proofs.Laws.Many.{Counting}
-use Rattle.lists.proofs.Laws.Lists.{Onward, listing}
+use Rattle.lists.proofs.Laws.Lists.{listing}
 use Rattle.lists.proofs.parse_byte_many.Goals as goal
 
 pub begin_bytes-begun-requires : goal.begin_bytes-begun-requires

@@ -1,6 +1,6 @@
 use Rattle.format.specs.Number.{next_byte}
 use Rattle.lists.proofs.Laws.Many.{Counting}
-use Rattle.lists.proofs.Laws.Lists.{Onward, listing}
+use Rattle.lists.proofs.Laws.Lists.{Onward}
 use Rattle.lists.proofs.parse_byte_many.Given as goal
 
 abbrev pub invariant-loop-k : goal.invariant-loop-k

@@ -1,6 +1,4 @@
 use borrow.Author.Rules.{rules}
-use mathlib.Core.Path.{◌≡◌}
-use lib.ListN.{length}
 use Rattle.name_lines.proofs.line_in.Goals as goal
 
 pub loop-turns-init : goal.loop-turns-init

@@ -1,6 +1,4 @@
 use Rattle.next_areas.proofs.Laws.{nexts}
-use Rattle.next_areas.proofs.Laws.{Nexting}
-use Prim.Native.Nat.{◌-◌}
 use Rattle.next_areas.proofs.next_kept.Goals as goal
 
 pub loop-j-init : goal.loop-j-init

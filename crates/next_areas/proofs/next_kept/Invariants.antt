@@ -1,4 +1,3 @@
-use Rattle.next_areas.proofs.Laws.{nexts}
 use Rattle.next_areas.proofs.Laws.{Nexting}
 use Prim.Native.Nat.{◌-◌}
 use Rattle.next_areas.proofs.next_kept.Given as goal

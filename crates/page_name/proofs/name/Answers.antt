@@ -1,7 +1,4 @@
 use Rattle.page_name.proofs.Laws.{naming}
-use Prim.Native.Nat.{◌-◌}
-use lib.ListN.{length}
-use Rattle.page_name.proofs.Laws.{Naming}
 use Rattle.page_name.proofs.name.Goals as goal
 
 pub loop-i-init : goal.loop-i-init

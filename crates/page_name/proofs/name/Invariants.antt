@@ -1,4 +1,3 @@
-use Rattle.page_name.proofs.Laws.{naming}
 use Prim.Native.Nat.{◌-◌}
 use lib.ListN.{length}
 use Rattle.page_name.proofs.Laws.{Naming}

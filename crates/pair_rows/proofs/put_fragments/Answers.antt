@@ -1,6 +1,4 @@
 use Rattle.pair_rows.proofs.Laws.{columning}
-use Prim.Native.Nat.{◌-◌}
-use Rattle.pair_rows.proofs.Laws.{Columned}
 use Rattle.pair_rows.proofs.put_fragments.Goals as goal
 
 pub loop-i-init : goal.loop-i-init

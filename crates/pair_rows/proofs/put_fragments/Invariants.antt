@@ -1,4 +1,3 @@
-use Rattle.pair_rows.proofs.Laws.{columning}
 use Prim.Native.Nat.{◌-◌}
 use Rattle.pair_rows.proofs.Laws.{Columned}
 use Rattle.pair_rows.proofs.put_fragments.Given as goal

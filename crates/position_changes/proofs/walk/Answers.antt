@@ -1,6 +1,4 @@
 use Rattle.position_changes.proofs.Cells.{walks}
-use Rattle.position_changes.proofs.Cells.{PositionsGo}
-use Prim.Native.Nat.{◌-◌, ◌≤◌}
 use Rattle.position_changes.proofs.walk.Goals as goal
 
 pub longer-end-requires : goal.longer-end-requires

@@ -1,6 +1,5 @@
-use Rattle.position_changes.proofs.Cells.{walks}
 use Rattle.position_changes.proofs.Cells.{PositionsGo}
-use Prim.Native.Nat.{◌-◌, ◌≤◌}
+use Prim.Native.Nat.{◌-◌}
 use Rattle.position_changes.proofs.walk.Given as goal
 
 abbrev pub invariant-loop-i : goal.invariant-loop-i

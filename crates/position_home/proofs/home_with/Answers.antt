@@ -1,6 +1,4 @@
 use Rattle.position_home.proofs.Laws.{homing}
-use Rattle.position_home.proofs.Laws.{Homing}
-use Prim.Native.Nat.{◌-◌}
 use Rattle.position_home.proofs.home_with.Goals as goal
 
 pub loop-i-init : goal.loop-i-init

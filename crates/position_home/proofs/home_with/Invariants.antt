@@ -1,4 +1,3 @@
-use Rattle.position_home.proofs.Laws.{homing}
 use Rattle.position_home.proofs.Laws.{Homing}
 use Prim.Native.Nat.{◌-◌}
 use Rattle.position_home.proofs.home_with.Given as goal

@@ -1,6 +1,4 @@
 use Rattle.record_parts.proofs.Laws.{columns}
-use Rattle.record_parts.proofs.Laws.{Columning}
-use Prim.Native.Nat.{◌-◌}
 use Rattle.record_parts.proofs.columns_at.Goals as goal
 
 pub fewer-k-requires : goal.fewer-k-requires

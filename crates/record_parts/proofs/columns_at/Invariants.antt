@@ -1,4 +1,3 @@
-use Rattle.record_parts.proofs.Laws.{columns}
 use Rattle.record_parts.proofs.Laws.{Columning}
 use Prim.Native.Nat.{◌-◌}
 use Rattle.record_parts.proofs.columns_at.Given as goal

@@ -1,4 +1,4 @@
-use Rattle.std.proofs.Common.{◌≡◌, length, rules}
+use Rattle.std.proofs.Common.{rules}
 use Rattle.replay_books.proofs.all.Goals as goal
 
 pub loop-turns-init : goal.loop-turns-init

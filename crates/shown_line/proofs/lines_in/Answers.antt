@@ -1,7 +1,4 @@
 use Rattle.shown_line.proofs.Laws.{counting}
-use Rattle.shown_line.proofs.Laws.{Counting}
-use Prim.Native.Nat.{◌-◌}
-use lib.ListN.{length}
 use Rattle.shown_line.proofs.lines_in.Goals as goal
 
 pub loop-i-init : goal.loop-i-init

@@ -1,4 +1,3 @@
-use Rattle.shown_line.proofs.Laws.{counting}
 use Rattle.shown_line.proofs.Laws.{Counting}
 use Prim.Native.Nat.{◌-◌}
 use lib.ListN.{length}

@@ -1,7 +1,4 @@
 use Rattle.shown_line.proofs.Laws.{putting}
-use Rattle.shown_line.proofs.Laws.{Putting}
-use Prim.Native.Nat.{◌-◌}
-use lib.ListN.{length}
 use Rattle.shown_line.proofs.put_safe.Goals as goal
 
 pub loop-i-init : goal.loop-i-init

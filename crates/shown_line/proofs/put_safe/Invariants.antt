@@ -1,4 +1,3 @@
-use Rattle.shown_line.proofs.Laws.{putting}
 use Rattle.shown_line.proofs.Laws.{Putting}
 use Prim.Native.Nat.{◌-◌}
 use lib.ListN.{length}

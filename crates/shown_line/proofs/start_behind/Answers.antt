@@ -1,7 +1,4 @@
 use Rattle.shown_line.proofs.Laws.{starting}
-use Rattle.shown_line.proofs.Laws.{Starting}
-use Prim.Native.Nat.{◌-◌}
-use lib.ListN.{length}
 use Rattle.shown_line.proofs.start_behind.Goals as goal
 
 pub loop-i-init : goal.loop-i-init

@@ -1,4 +1,3 @@
-use Rattle.shown_line.proofs.Laws.{starting}
 use Rattle.shown_line.proofs.Laws.{Starting}
 use Prim.Native.Nat.{◌-◌}
 use lib.ListN.{length}

@@ -1,7 +1,4 @@
 use Rattle.text_lines.proofs.Laws.{scanning}
-use Rattle.text_lines.specs.Lines.{OneLine}
-use Prim.Native.Nat.{◌-◌, ◌≤◌}
-use lib.ListN.{length}
 use Rattle.text_lines.proofs.past_eights.Goals as goal
 
 pub returns-then-t-at : goal.returns-then-t-at

@@ -1,4 +1,3 @@
-use Rattle.text_lines.proofs.Laws.{scanning}
 use Rattle.text_lines.specs.Lines.{OneLine}
 use Prim.Native.Nat.{◌-◌, ◌≤◌}
 use lib.ListN.{length}

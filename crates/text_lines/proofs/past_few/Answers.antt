@@ -1,7 +1,4 @@
 use Rattle.text_lines.proofs.Laws.{few, line-more}
-use Rattle.text_lines.specs.Lines.{OneLine}
-use Prim.Native.Nat.{◌+◌, ◌≤◌}
-use lib.ListN.{length}
 use Rattle.text_lines.proofs.past_few.Goals as goal
 
 pub loop-k-init : goal.loop-k-init

@@ -1,4 +1,3 @@
-use Rattle.text_lines.proofs.Laws.{few, line-more}
 use Rattle.text_lines.specs.Lines.{OneLine}
 use Prim.Native.Nat.{◌+◌, ◌≤◌}
 use lib.ListN.{length}

@@ -1,7 +1,4 @@
 use Rattle.way_in.proofs.Laws.{looking}
-use Prim.Native.Nat.{◌-◌}
-use lib.ListN.{length}
-use Rattle.way_in.proofs.Laws.{Looking}
 use Rattle.way_in.proofs.find_high.Goals as goal
 
 pub loop-i-init : goal.loop-i-init

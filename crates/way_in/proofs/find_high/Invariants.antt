@@ -1,4 +1,3 @@
-use Rattle.way_in.proofs.Laws.{looking}
 use Prim.Native.Nat.{◌-◌}
 use lib.ListN.{length}
 use Rattle.way_in.proofs.Laws.{Looking}

@@ -1,7 +1,4 @@
 use Rattle.way_in.proofs.Laws.{below}
-use Prim.Native.Nat.{◌-◌}
-use lib.ListN.{length}
-use Rattle.way_in.proofs.Laws.{Below}
 use Rattle.way_in.proofs.highest.Goals as goal
 
 pub loop-i-init : goal.loop-i-init

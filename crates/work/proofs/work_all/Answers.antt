@@ -1,6 +1,4 @@
-use Rattle.work.proofs.AllLaws.{working, Working}
-use Rattle.work.specs.Work.{line_of}
-use Prim.Native.Nat.{◌-◌}
+use Rattle.work.proofs.AllLaws.{working}
 use Rattle.work.proofs.work_all.Goals as goal
 
 pub loop-i-init : goal.loop-i-init

@@ -1,4 +1,4 @@
-use Rattle.work.proofs.AllLaws.{working, Working}
+use Rattle.work.proofs.AllLaws.{Working}
 use Rattle.work.specs.Work.{line_of}
 use Prim.Native.Nat.{◌-◌}
 use Rattle.work.proofs.work_all.Given as goal

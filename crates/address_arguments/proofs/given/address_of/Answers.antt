@@ -1,6 +1,4 @@
 use borrow.Author.Rules.{rules}
-use Prim.Native.Nat.{◌-◌}
-use lib.ListN.{length}
 use Rattle.address_arguments.proofs.given.address_of.Goals as goal
 
 pub returns-then-word-eq0 : goal.returns-then-word-eq0

@@ -1,5 +1,4 @@
 use borrow.Author.Rules.{rules}
-use Prim.Native.Nat.{◌-◌}
 use Rattle.address_arguments.proofs.given.are_right.Goals as goal
 
 pub loop-i-init : goal.loop-i-init

@@ -1,5 +1,4 @@
 use borrow.Author.Rules.{rules}
-use Prim.Native.Nat.{◌-◌}
 use Rattle.address_arguments.proofs.missing.symbols_have.Goals as goal
 
 pub loop-j-init : goal.loop-j-init

@@ -1,5 +1,4 @@
 use borrow.Author.Rules.{rules}
-use Prim.Native.Nat.{◌-◌}
 use Rattle.address_arguments.proofs.noted.note_named.Goals as goal
 
 pub loop-j-init : goal.loop-j-init

@@ -1,7 +1,4 @@
 use Rattle.alike.proofs.Looked.{looks}
-use Rattle.alike.proofs.Looked.{Looking}
-use Rattle.alike.specs.Parts.{same_at}
-use Prim.Native.Nat.{◌-◌}
 use Rattle.alike.proofs.like.first_like.Goals as goal
 
 pub loop-j-init : goal.loop-j-init

@@ -1,4 +1,3 @@
-use Rattle.alike.proofs.Looked.{looks}
 use Rattle.alike.proofs.Looked.{Looking}
 use Rattle.alike.specs.Parts.{same_at}
 use Prim.Native.Nat.{◌-◌}

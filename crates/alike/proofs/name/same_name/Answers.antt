@@ -1,7 +1,4 @@
 use Rattle.alike.proofs.Names.{names}
-use Rattle.alike.proofs.Names.{Naming}
-use lib.ListN.{length}
-use Prim.Native.Nat.{◌-◌}
 use Rattle.alike.proofs.name.same_name.Goals as goal
 
 pub returns-then-a-b : goal.returns-then-a-b

@@ -1,4 +1,3 @@
-use Rattle.alike.proofs.Names.{names}
 use Rattle.alike.proofs.Names.{Naming}
 use lib.ListN.{length}
 use Prim.Native.Nat.{◌-◌}

@@ -1,6 +1,4 @@
 use Rattle.book_given.proofs.Pool.{inside}
-use Prim.Native.Nat.{◌-◌}
-use Rattle.book_given.proofs.Pool.{Inside}
 use Rattle.book_given.proofs.given.first_out.Goals as goal
 
 pub loop-i-init : goal.loop-i-init

@@ -1,4 +1,3 @@
-use Rattle.book_given.proofs.Pool.{inside}
 use Prim.Native.Nat.{◌-◌}
 use Rattle.book_given.proofs.Pool.{Inside}
 use Rattle.book_given.proofs.given.first_out.Given as goal

@@ -1,6 +1,4 @@
 use Rattle.book_given.proofs.Pool.{differing}
-use Prim.Native.Nat.{◌-◌}
-use Rattle.book.proofs.Twice.{Different}
 use Rattle.book_given.proofs.twice.first_twice.Goals as goal
 
 pub loop-k-init : goal.loop-k-init

@@ -1,4 +1,3 @@
-use Rattle.book_given.proofs.Pool.{differing}
 use Prim.Native.Nat.{◌-◌}
 use Rattle.book.proofs.Twice.{Different}
 use Rattle.book_given.proofs.twice.first_twice.Given as goal

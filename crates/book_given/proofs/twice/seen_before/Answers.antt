@@ -1,6 +1,4 @@
 use Rattle.book_given.proofs.Pool.{seeing}
-use Prim.Native.Nat.{◌-◌}
-use Rattle.book.proofs.Twice.{Unseen}
 use Rattle.book_given.proofs.twice.seen_before.Goals as goal
 
 pub loop-i-init : goal.loop-i-init

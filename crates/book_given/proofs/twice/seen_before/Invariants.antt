@@ -1,4 +1,3 @@
-use Rattle.book_given.proofs.Pool.{seeing}
 use Prim.Native.Nat.{◌-◌}
 use Rattle.book.proofs.Twice.{Unseen}
 use Rattle.book_given.proofs.twice.seen_before.Given as goal

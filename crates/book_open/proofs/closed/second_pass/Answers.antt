@@ -1,6 +1,4 @@
 use Rattle.book_open.proofs.Laws.{second-passing}
-use Prim.Native.Nat.{◌-◌}
-use Rattle.book.proofs.Laws.{Second}
 use Rattle.book_open.proofs.closed.second_pass.Goals as goal
 
 pub place_of-at-requires : goal.place_of-at-requires

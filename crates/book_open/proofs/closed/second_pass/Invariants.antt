@@ -1,4 +1,3 @@
-use Rattle.book_open.proofs.Laws.{second-passing}
 use Prim.Native.Nat.{◌-◌}
 use Rattle.book.proofs.Laws.{Second}
 use Rattle.book_open.proofs.closed.second_pass.Given as goal

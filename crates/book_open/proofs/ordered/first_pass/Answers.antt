@@ -1,6 +1,4 @@
 use Rattle.book_open.proofs.Laws.{first-passing}
-use Prim.Native.Nat.{◌-◌}
-use Rattle.book.proofs.Laws.{First}
 use Rattle.book_open.proofs.ordered.first_pass.Goals as goal
 
 pub loop-i-init : goal.loop-i-init

@@ -1,4 +1,3 @@
-use Rattle.book_open.proofs.Laws.{first-passing}
 use Prim.Native.Nat.{◌-◌}
 use Rattle.book.proofs.Laws.{First}
 use Rattle.book_open.proofs.ordered.first_pass.Given as goal

@@ -1,6 +1,4 @@
 use Rattle.book_order.proofs.Laws.{spots}
-use Prim.Native.Nat.{◌-◌}
-use Rattle.book_order.proofs.Laws.{Spotting}
 use Rattle.book_order.proofs.order.find_spot.Goals as goal
 
 pub loop-i-init : goal.loop-i-init

@@ -1,4 +1,3 @@
-use Rattle.book_order.proofs.Laws.{spots}
 use Prim.Native.Nat.{◌-◌}
 use Rattle.book_order.proofs.Laws.{Spotting}
 use Rattle.book_order.proofs.order.find_spot.Given as goal

@@ -1,6 +1,4 @@
 use Rattle.book_order.proofs.Moving.{moves}
-use Prim.Native.Nat.{◌-◌}
-use Rattle.book_order.proofs.Moving.{Moving}
 use Rattle.book_order.proofs.order.insert_at.Goals as goal
 
 pub loop-j-init : goal.loop-j-init

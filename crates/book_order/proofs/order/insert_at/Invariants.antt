@@ -1,4 +1,3 @@
-use Rattle.book_order.proofs.Moving.{moves}
 use Prim.Native.Nat.{◌-◌}
 use Rattle.book_order.proofs.Moving.{Moving}
 use Rattle.book_order.proofs.order.insert_at.Given as goal

@@ -1,6 +1,4 @@
 use Rattle.book_order.proofs.Laws.{sorts}
-use Prim.Native.Nat.{◌-◌}
-use Rattle.book_order.proofs.Laws.{Sorting}
 use Rattle.book_order.proofs.order.sort_numbers.Goals as goal
 
 pub wide-requires : goal.wide-requires

@@ -1,4 +1,3 @@
-use Rattle.book_order.proofs.Laws.{sorts}
 use Prim.Native.Nat.{◌-◌}
 use Rattle.book_order.proofs.Laws.{Sorting}
 use Rattle.book_order.proofs.order.sort_numbers.Given as goal

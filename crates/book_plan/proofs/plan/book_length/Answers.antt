@@ -1,6 +1,4 @@
 use Rattle.book_plan.proofs.Sums.{sums}
-use Prim.Native.Nat.{◌-◌}
-use Rattle.book_plan.proofs.Sums.{Summing}
 use Rattle.book_plan.proofs.plan.book_length.Goals as goal
 
 pub place_of-to-requires : goal.place_of-to-requires

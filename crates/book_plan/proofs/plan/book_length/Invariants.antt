@@ -1,4 +1,3 @@
-use Rattle.book_plan.proofs.Sums.{sums}
 use Prim.Native.Nat.{◌-◌}
 use Rattle.book_plan.proofs.Sums.{Summing}
 use Rattle.book_plan.proofs.plan.book_length.Given as goal

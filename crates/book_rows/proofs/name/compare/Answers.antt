@@ -1,6 +1,4 @@
-use Prim.Native.Nat.{◌-◌}
-use lib.ListN.{length}
-use Rattle.book.proofs.Laws.{Comparing, comparing}
+use Rattle.book.proofs.Laws.{comparing}
 use Rattle.book_rows.proofs.name.compare.Goals as goal
 
 pub loop-i-init : goal.loop-i-init

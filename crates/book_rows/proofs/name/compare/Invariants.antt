@@ -1,6 +1,6 @@
 use Prim.Native.Nat.{◌-◌}
 use lib.ListN.{length}
-use Rattle.book.proofs.Laws.{Comparing, comparing}
+use Rattle.book.proofs.Laws.{Comparing}
 use Rattle.book_rows.proofs.name.compare.Given as goal
 
 abbrev pub invariant-loop-i : goal.invariant-loop-i

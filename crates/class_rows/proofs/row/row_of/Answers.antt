@@ -38,19 +38,19 @@ pub bounds-5 : goal.bounds-5
 bounds-5 c = search rows
 
 pub returns-in-Addr19 : goal.returns-in-Addr19
-returns-in-Addr19 c = rw c.enum_told-1.given.1
+returns-in-Addr19 c = rw c.in-Addr19.is
 
 pub returns-in-Addr11 : goal.returns-in-Addr11
-returns-in-Addr11 c = rw c.enum_told-in-Addr11-1.given.1
+returns-in-Addr11 c = rw c.in-Addr11.is
 
 pub returns-in-Addr24 : goal.returns-in-Addr24
-returns-in-Addr24 c = rw c.enum_told-in-Addr24-1.given.1
+returns-in-Addr24 c = rw c.in-Addr24.is
 
 pub returns-in-Addr16 : goal.returns-in-Addr16
-returns-in-Addr16 c = rw c.enum_told-in-Addr16-1.given.1
+returns-in-Addr16 c = rw c.in-Addr16.is
 
 pub returns-in-Byte : goal.returns-in-Byte
-returns-in-Byte c = rw c.enum_told-in-Byte-1.given.1
+returns-in-Byte c = rw c.in-Byte.is
 
 pub returns-in-Other : goal.returns-in-Other
-returns-in-Other c = rw c.enum_told-in-Other-1.given.1
+returns-in-Other c = rw c.in-Other.is

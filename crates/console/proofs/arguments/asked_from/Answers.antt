@@ -1,5 +1,4 @@
 use borrow.Author.Rules.{rules}
-use Prim.Native.Nat.{◌-◌}
 use Rattle.console.proofs.arguments.asked_from.Goals as goal
 
 pub loop-i-init : goal.loop-i-init

@@ -1,7 +1,4 @@
 use Rattle.fields.proofs.Laws.Ignored.{among}
-use Prim.Native.Nat.{◌-◌}
-use lib.ListN.{length}
-use Rattle.fields.proofs.Laws.Ignored.{Among}
 use Rattle.fields.proofs.ignored.one_of.Goals as goal
 
 pub loop-i-init : goal.loop-i-init

@@ -1,4 +1,3 @@
-use Rattle.fields.proofs.Laws.Ignored.{among}
 use Prim.Native.Nat.{◌-◌}
 use lib.ListN.{length}
 use Rattle.fields.proofs.Laws.Ignored.{Among}

@@ -1,6 +1,4 @@
 use Rattle.fit_rows.proofs.Laws.Fragments.{beside-rows}
-use Rattle.fit_rows.proofs.Laws.Fragments.{Besiding}
-use Prim.Native.Nat.{◌-◌}
 use Rattle.fit_rows.proofs.fragments.beside_all.Goals as goal
 
 pub loop-i-init : goal.loop-i-init

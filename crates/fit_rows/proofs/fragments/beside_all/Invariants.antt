@@ -1,4 +1,3 @@
-use Rattle.fit_rows.proofs.Laws.Fragments.{beside-rows}
 use Rattle.fit_rows.proofs.Laws.Fragments.{Besiding}
 use Prim.Native.Nat.{◌-◌}
 use Rattle.fit_rows.proofs.fragments.beside_all.Given as goal

@@ -1,6 +1,4 @@
 use Rattle.fit_rows.proofs.Laws.Fragments.{bodies}
-use Rattle.fit_rows.proofs.Laws.Fragments.{Bodying}
-use Prim.Native.Nat.{◌-◌}
 use Rattle.fit_rows.proofs.fragments.fit_bodies.Goals as goal
 
 pub loop-k-init : goal.loop-k-init

@@ -1,4 +1,3 @@
-use Rattle.fit_rows.proofs.Laws.Fragments.{bodies}
 use Rattle.fit_rows.proofs.Laws.Fragments.{Bodying}
 use Prim.Native.Nat.{◌-◌}
 use Rattle.fit_rows.proofs.fragments.fit_bodies.Given as goal

@@ -1,6 +1,4 @@
 use Rattle.fit_rows.proofs.Laws.Fragments.{fitting}
-use Rattle.fit_rows.proofs.Laws.Fragments.{Fitting}
-use Prim.Native.Nat.{◌-◌}
 use Rattle.fit_rows.proofs.fragments.fit_fragments.Goals as goal
 
 pub loop-i-init : goal.loop-i-init

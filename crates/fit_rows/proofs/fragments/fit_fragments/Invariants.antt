@@ -1,4 +1,3 @@
-use Rattle.fit_rows.proofs.Laws.Fragments.{fitting}
 use Rattle.fit_rows.proofs.Laws.Fragments.{Fitting}
 use Prim.Native.Nat.{◌-◌}
 use Rattle.fit_rows.proofs.fragments.fit_fragments.Given as goal

@@ -1,6 +1,4 @@
 use Rattle.fit_rows.proofs.Laws.Spans.{parting}
-use Rattle.fit_rows.proofs.Laws.Spans.{Parting}
-use Prim.Native.Nat.{◌-◌}
 use Rattle.fit_rows.proofs.spans.are_apart.Goals as goal
 
 pub loop-k-init : goal.loop-k-init

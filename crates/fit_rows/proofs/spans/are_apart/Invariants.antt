@@ -1,4 +1,3 @@
-use Rattle.fit_rows.proofs.Laws.Spans.{parting}
 use Rattle.fit_rows.proofs.Laws.Spans.{Parting}
 use Prim.Native.Nat.{◌-◌}
 use Rattle.fit_rows.proofs.spans.are_apart.Given as goal

@@ -1,6 +1,4 @@
 use Rattle.fit_rows.proofs.Laws.Spans.{clear-rows}
-use Rattle.fit_rows.proofs.Laws.Spans.{Clearing}
-use Prim.Native.Nat.{◌-◌}
 use Rattle.fit_rows.proofs.spans.is_clear_of.Goals as goal
 
 pub loop-i-init : goal.loop-i-init

@@ -1,4 +1,3 @@
-use Rattle.fit_rows.proofs.Laws.Spans.{clear-rows}
 use Rattle.fit_rows.proofs.Laws.Spans.{Clearing}
 use Prim.Native.Nat.{◌-◌}
 use Rattle.fit_rows.proofs.spans.is_clear_of.Given as goal

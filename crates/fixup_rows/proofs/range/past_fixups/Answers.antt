@@ -1,7 +1,4 @@
 use Rattle.row_parts.proofs.Ranges.{passes}
-use Prim.Native.Nat.{◌-◌}
-use Rattle.fixup_rows.specs.Ranges.{fixup_in}
-use Rattle.row_parts.proofs.Ranges.{Passing}
 use Rattle.fixup_rows.proofs.range.past_fixups.Goals as goal
 
 pub loop-j-init : goal.loop-j-init

@@ -1,4 +1,3 @@
-use Rattle.row_parts.proofs.Ranges.{passes}
 use Prim.Native.Nat.{◌-◌}
 use Rattle.fixup_rows.specs.Ranges.{fixup_in}
 use Rattle.row_parts.proofs.Ranges.{Passing}

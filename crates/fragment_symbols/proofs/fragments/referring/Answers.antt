@@ -1,7 +1,4 @@
 use Rattle.fragment_symbols.proofs.Laws.{looks}
-use Prim.Native.Nat.{◌-◌}
-use Rattle.alike.proofs.Looked.{Looking}
-use Rattle.kept_symbols.specs.Staying.{refers_to}
 use Rattle.fragment_symbols.proofs.fragments.referring.Goals as goal
 
 pub loop-i-init : goal.loop-i-init

@@ -1,4 +1,3 @@
-use Rattle.fragment_symbols.proofs.Laws.{looks}
 use Prim.Native.Nat.{◌-◌}
 use Rattle.alike.proofs.Looked.{Looking}
 use Rattle.kept_symbols.specs.Staying.{refers_to}

@@ -1,6 +1,4 @@
 use Rattle.images.proofs.CountLaws.{counting}
-use Prim.Native.Nat.{◌-◌}
-use Rattle.images.proofs.CountLaws.{Filling}
 use Rattle.images.proofs.count.fill_masks.Goals as goal
 
 pub loop-i-init : goal.loop-i-init

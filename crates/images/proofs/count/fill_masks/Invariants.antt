@@ -1,4 +1,3 @@
-use Rattle.images.proofs.CountLaws.{counting}
 use Prim.Native.Nat.{◌-◌}
 use Rattle.images.proofs.CountLaws.{Filling}
 use Rattle.images.proofs.count.fill_masks.Given as goal

@@ -1,6 +1,4 @@
 use Rattle.images.proofs.ImageLaws.{imaging}
-use Prim.Native.Nat.{◌-◌}
-use Rattle.images.proofs.ImageLaws.{Imaging}
 use Rattle.images.proofs.image.write_entries.Goals as goal
 
 pub overflow_add-n : goal.overflow_add-n

@@ -1,4 +1,3 @@
-use Rattle.images.proofs.ImageLaws.{imaging}
 use Prim.Native.Nat.{◌-◌}
 use Rattle.images.proofs.ImageLaws.{Imaging}
 use Rattle.images.proofs.image.write_entries.Given as goal

@@ -1,6 +1,4 @@
 use Rattle.joining.proofs.JoinLaws.{joining}
-use Prim.Native.Nat.{◌-◌}
-use Rattle.joining.proofs.JoinLaws.{Joining}
 use Rattle.joining.proofs.join.endian_to_number.Goals as goal
 
 pub four_at_most-k-requires : goal.four_at_most-k-requires

@@ -1,4 +1,3 @@
-use Rattle.joining.proofs.JoinLaws.{joining}
 use Prim.Native.Nat.{◌-◌}
 use Rattle.joining.proofs.JoinLaws.{Joining}
 use Rattle.joining.proofs.join.endian_to_number.Given as goal

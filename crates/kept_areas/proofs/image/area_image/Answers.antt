@@ -1,6 +1,4 @@
 use Rattle.kept_areas.proofs.Images.{images}
-use Prim.Native.Nat.{◌-◌}
-use Rattle.kept_areas.proofs.Images.{Offsetting}
 use Rattle.kept_areas.proofs.image.area_image.Goals as goal
 
 pub slice_bounds-result-end : goal.slice_bounds-result-end

@@ -1,4 +1,3 @@
-use Rattle.kept_areas.proofs.Images.{images}
 use Prim.Native.Nat.{◌-◌}
 use Rattle.kept_areas.proofs.Images.{Offsetting}
 use Rattle.kept_areas.proofs.image.area_image.Given as goal

@@ -1,6 +1,4 @@
 use Rattle.kept_areas.proofs.Ranks.{ids}
-use Prim.Native.Nat.{◌-◌}
-use Rattle.laws.proofs.Areas.{Ranking}
 use Rattle.kept_areas.proofs.rank.area_id.Goals as goal
 
 pub returns-then-n-i : goal.returns-then-n-i

@@ -1,4 +1,3 @@
-use Rattle.kept_areas.proofs.Ranks.{ids}
 use Prim.Native.Nat.{◌-◌}
 use Rattle.laws.proofs.Areas.{Ranking}
 use Rattle.kept_areas.proofs.rank.area_id.Given as goal

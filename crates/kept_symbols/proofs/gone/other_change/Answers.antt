@@ -1,7 +1,4 @@
 use Rattle.kept_symbols.proofs.Laws.Gone.{others}
-use Prim.Native.Nat.{◌-◌}
-use Rattle.alike.proofs.Looked.{Looking}
-use Rattle.kept_symbols.specs.Staying.{other_change}
 use Rattle.kept_symbols.proofs.gone.other_change.Goals as goal
 
 pub loop-i-init : goal.loop-i-init

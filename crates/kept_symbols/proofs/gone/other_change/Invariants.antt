@@ -1,4 +1,3 @@
-use Rattle.kept_symbols.proofs.Laws.Gone.{others}
 use Prim.Native.Nat.{◌-◌}
 use Rattle.alike.proofs.Looked.{Looking}
 use Rattle.kept_symbols.specs.Staying.{other_change}

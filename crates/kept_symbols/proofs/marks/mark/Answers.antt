@@ -1,6 +1,4 @@
 use Rattle.kept_symbols.proofs.Laws.Marks.{marks}
-use Prim.Native.Nat.{◌-◌}
-use Rattle.kept_symbols.proofs.Laws.Marks.{Marking}
 use Rattle.kept_symbols.proofs.marks.mark.Goals as goal
 
 pub loop-j-init : goal.loop-j-init

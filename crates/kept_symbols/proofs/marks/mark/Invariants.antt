@@ -1,4 +1,3 @@
-use Rattle.kept_symbols.proofs.Laws.Marks.{marks}
 use Prim.Native.Nat.{◌-◌}
 use Rattle.kept_symbols.proofs.Laws.Marks.{Marking}
 use Rattle.kept_symbols.proofs.marks.mark.Given as goal

@@ -1,6 +1,4 @@
 use Rattle.kept_symbols.proofs.Laws.Marks.{counting}
-use Prim.Native.Nat.{◌-◌}
-use Rattle.kept_symbols.proofs.Laws.Marks.{Counting}
 use Rattle.kept_symbols.proofs.marks.staying.Goals as goal
 
 pub loop-j-init : goal.loop-j-init

@@ -1,4 +1,3 @@
-use Rattle.kept_symbols.proofs.Laws.Marks.{counting}
 use Prim.Native.Nat.{◌-◌}
 use Rattle.kept_symbols.proofs.Laws.Marks.{Counting}
 use Rattle.kept_symbols.proofs.marks.staying.Given as goal

@@ -1,5 +1,4 @@
 use borrow.Author.Rules.{rules}
-use Prim.Native.Nat.{◌-◌}
 use Rattle.listed_lines.proofs.area.area_lines.Goals as goal
 
 pub loop-i-init : goal.loop-i-init

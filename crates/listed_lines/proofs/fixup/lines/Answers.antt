@@ -1,5 +1,4 @@
 use borrow.Author.Rules.{rules}
-use Prim.Native.Nat.{◌-◌}
 use Rattle.listed_lines.proofs.fixup.lines.Goals as goal
 
 pub area_fixups-range-requires : goal.area_fixups-range-requires

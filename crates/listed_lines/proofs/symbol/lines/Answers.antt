@@ -1,5 +1,4 @@
 use borrow.Author.Rules.{rules}
-use Prim.Native.Nat.{◌-◌}
 use Rattle.listed_lines.proofs.symbol.lines.Goals as goal
 
 pub area_symbols-range-requires : goal.area_symbols-range-requires

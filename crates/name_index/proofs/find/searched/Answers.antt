@@ -1,7 +1,4 @@
 use Rattle.name_index.proofs.Laws.{searches}
-use Rattle.alike.proofs.Looked.{Looking}
-use Rattle.name_index.specs.Index.{named_at}
-use Prim.Native.Nat.{◌-◌}
 use Rattle.name_index.proofs.find.searched.Goals as goal
 
 pub loop-j-init : goal.loop-j-init

@@ -1,4 +1,3 @@
-use Rattle.name_index.proofs.Laws.{searches}
 use Rattle.alike.proofs.Looked.{Looking}
 use Rattle.name_index.specs.Index.{named_at}
 use Prim.Native.Nat.{◌-◌}

@@ -1,7 +1,4 @@
 use Rattle.name_index.proofs.Laws.{hashes}
-use Rattle.name_index.proofs.Laws.{Hashing}
-use lib.ListN.{length}
-use Prim.Native.Nat.{◌-◌}
 use Rattle.name_index.proofs.hash.hash.Goals as goal
 
 pub loop-i-init : goal.loop-i-init

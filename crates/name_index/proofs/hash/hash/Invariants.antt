@@ -1,4 +1,3 @@
-use Rattle.name_index.proofs.Laws.{hashes}
 use Rattle.name_index.proofs.Laws.{Hashing}
 use lib.ListN.{length}
 use Prim.Native.Nat.{◌-◌}

@@ -1,6 +1,4 @@
 use Rattle.name_index.proofs.Laws.{notes}
-use Rattle.name_index.proofs.Laws.{Noting}
-use Prim.Native.Nat.{◌-◌}
 use Rattle.name_index.proofs.index.note_all.Goals as goal
 
 pub loop-j-init : goal.loop-j-init

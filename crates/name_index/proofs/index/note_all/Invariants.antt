@@ -1,4 +1,3 @@
-use Rattle.name_index.proofs.Laws.{notes}
 use Rattle.name_index.proofs.Laws.{Noting}
 use Prim.Native.Nat.{◌-◌}
 use Rattle.name_index.proofs.index.note_all.Given as goal

@@ -1,7 +1,4 @@
-use Rattle.numbers.proofs.Laws.Numbers.{digiting, Digits}
-use mathlib.Core.Path.{◌≡◌}
-use Prim.Native.Nat.{◌-◌, ◌<◌}
-use lib.ListN.{length}
+use Rattle.numbers.proofs.Laws.Numbers.{digiting}
 use Rattle.numbers.proofs.numbers.any_number.Goals as goal
 
 pub loop-i-init : goal.loop-i-init

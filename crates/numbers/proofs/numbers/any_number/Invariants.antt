@@ -1,4 +1,4 @@
-use Rattle.numbers.proofs.Laws.Numbers.{digiting, Digits}
+use Rattle.numbers.proofs.Laws.Numbers.{Digits}
 use mathlib.Core.Path.{◌≡◌}
 use Prim.Native.Nat.{◌-◌, ◌<◌}
 use lib.ListN.{length}

@@ -1,7 +1,4 @@
-use Rattle.scan.proofs.Laws.Kinds.{spans, Spans}
-use Prim.Native.Nat.{◌-◌}
-use lib.ListN.{length}
-use Rattle.scan.specs.Kinds.{kind_of}
+use Rattle.scan.proofs.Laws.Kinds.{spans}
 use Rattle.scan.proofs.kinds.past_kind.Goals as goal
 
 pub loop-i-init : goal.loop-i-init

@@ -1,4 +1,4 @@
-use Rattle.scan.proofs.Laws.Kinds.{spans, Spans}
+use Rattle.scan.proofs.Laws.Kinds.{Spans}
 use Prim.Native.Nat.{◌-◌}
 use lib.ListN.{length}
 use Rattle.scan.specs.Kinds.{kind_of}

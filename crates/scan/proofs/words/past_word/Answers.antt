@@ -1,6 +1,4 @@
-use Rattle.scan.proofs.Laws.Words.{wording, Words}
-use Prim.Native.Nat.{◌-◌}
-use lib.ListN.{length}
+use Rattle.scan.proofs.Laws.Words.{wording}
 use Rattle.scan.proofs.words.past_word.Goals as goal
 
 pub loop-i-init : goal.loop-i-init

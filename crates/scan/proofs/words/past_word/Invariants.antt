@@ -1,4 +1,4 @@
-use Rattle.scan.proofs.Laws.Words.{wording, Words}
+use Rattle.scan.proofs.Laws.Words.{Words}
 use Prim.Native.Nat.{◌-◌}
 use lib.ListN.{length}
 use Rattle.scan.proofs.words.past_word.Given as goal

@@ -1,6 +1,4 @@
 use Rattle.staying_rows.proofs.Laws.{keeps}
-use Prim.Native.Nat.{◌-◌}
-use Rattle.staying_rows.proofs.Laws.{Keeping}
 use Rattle.staying_rows.proofs.rows.keep_rows.Goals as goal
 
 pub at_most-m-requires : goal.at_most-m-requires

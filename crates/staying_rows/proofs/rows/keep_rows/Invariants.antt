@@ -1,4 +1,3 @@
-use Rattle.staying_rows.proofs.Laws.{keeps}
 use Prim.Native.Nat.{◌-◌}
 use Rattle.staying_rows.proofs.Laws.{Keeping}
 use Rattle.staying_rows.proofs.rows.keep_rows.Given as goal

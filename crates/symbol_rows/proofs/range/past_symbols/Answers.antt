@@ -1,7 +1,4 @@
 use Rattle.row_parts.proofs.Ranges.{passes}
-use Prim.Native.Nat.{◌-◌}
-use Rattle.symbol_rows.specs.Ranges.{symbol_in}
-use Rattle.row_parts.proofs.Ranges.{Passing}
 use Rattle.symbol_rows.proofs.range.past_symbols.Goals as goal
 
 pub loop-j-init : goal.loop-j-init

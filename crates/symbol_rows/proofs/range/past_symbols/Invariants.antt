@@ -1,4 +1,3 @@
-use Rattle.row_parts.proofs.Ranges.{passes}
 use Prim.Native.Nat.{◌-◌}
 use Rattle.symbol_rows.specs.Ranges.{symbol_in}
 use Rattle.row_parts.proofs.Ranges.{Passing}

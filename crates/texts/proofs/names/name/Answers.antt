@@ -1,7 +1,4 @@
 use Rattle.texts.proofs.Showing.{naming}
-use Prim.Native.Nat.{◌-◌}
-use lib.ListN.{length}
-use Rattle.texts.proofs.Showing.{Naming}
 use Rattle.texts.proofs.names.name.Goals as goal
 
 pub loop-i-init : goal.loop-i-init

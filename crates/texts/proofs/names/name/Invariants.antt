@@ -1,4 +1,3 @@
-use Rattle.texts.proofs.Showing.{naming}
 use Prim.Native.Nat.{◌-◌}
 use lib.ListN.{length}
 use Rattle.texts.proofs.Showing.{Naming}
