@@ -33,7 +33,7 @@ def head(lines):
 
 def plain(name):
     name = name.replace("_", "-")
-    return re.sub(r"^overflow-", "", name)
+    return re.sub(r"^slice-bounds-", "part-", re.sub(r"^(overflow|nonzero)-", "", name))
 
 
 def name_of(lines):
@@ -123,10 +123,14 @@ def turn(folder, crate, function, info):
             new, variables, changed = loops[plain(m.group(2))]
             first = [f"l.initial.{v}" if c else f"l.{v}" for v, c in zip(variables, changed)]
             then = [f"l.{v}" for v, c in zip(variables, changed) if c]
-            if len(params) != len(first) + len(then):
-                bad.append(f"{sig} has {len(params)} parameters, not {len(first) + len(then)}")
-                continue
             named = {p: v for p, v in zip(params, first + then) if p != "_"}
+            if len(params) != len(first) + len(then):
+                # A temporary of the older kit stands among them: by their names then.
+                named = {f"{v}₀": f"l.initial.{v}" for v in variables} | {v: f"l.{v}" for v in variables}
+                lost = [p for p in params if p not in named and re.search(rf"(?<![\w.'-]){re.escape(p)}(?![\w'-])", body)]
+                if lost:
+                    bad.append(f"{sig} speaks of {' '.join(lost)}")
+                    continue
             goal = f"{m.group(1)}-{new}"
             text = substituted(body, named)
             joint = "\n" if "\n" in text else " "

@@ -42,5 +42,9 @@ pub fn position(s: Sink, out: &mut Buffer, values: &[u8], masks: &[u8], i: usize
 {
     let value = cells::byte_at(values, i);
     let mask = cells::byte_at(masks, i);
-    sink::put(s, out, &hexadecimal::value_and_mask(value as usize, mask as usize))
+    sink::put(
+        s,
+        out,
+        &hexadecimal::value_and_mask(value as usize, mask as usize),
+    )
 }

@@ -23,6 +23,6 @@ numbers_after old js (refused n p) = old
 
 -- the answer, the lent bytes and the lent numbers, by what is packed
 pub record Written (pool rows : List ℕ) (n : ℕ) (out order : List ℕ) (r : Wrote) (new_out new_order : List ℕ) : Type 0 where
-  pub answer : answer_to pool rows n (length order) (length out) ≡ wrote_of r
+  pub answer : and_then (packed pool rows n (length order) (length out)) (λ b. fine (length b)) ≡ wrote_of r
   pub bytes-hold : new_out ≡ bytes_after out (packed pool rows n (length order) (length out))
   pub numbers-hold : new_order ≡ numbers_after order (numbers_of pool rows n) (packed pool rows n (length order) (length out))

@@ -12,7 +12,11 @@ use symbol_rows::symbol_value;
 // A side's value and mask, or that it has none.
 fn side(s: Sink, out: &mut Buffer, there: bool, value: u32, mask: u32) -> Sink {
     if there {
-        return sink::put(s, out, &hexadecimal::value_and_mask(wide(value), wide(mask)));
+        return sink::put(
+            s,
+            out,
+            &hexadecimal::value_and_mask(wide(value), wide(mask)),
+        );
     }
     sink::put(s, out, b" none")
 }

@@ -1,17 +1,16 @@
 -- The laws of the list, and of both answers.
 -- Assumes nothing.
-use Prim.Native.Nat.{ℕ, zero, suc, ◌+◌, ◌*◌, ◌≤◌}
-use mathlib.Core.Path.{◌≡◌, refl, ap, subst, sym, ◌∙◌}
+use Prim.Native.Nat.{ℕ, ◌*◌, ◌≤◌}
+use mathlib.Core.Path.{◌≡◌, ap, subst, sym, ◌∙◌}
 use mathlib.Core.Bool.{Bool, true, false, ◌&&◌}
-use mathlib.Core.List.{List, [], ◌∷◌, ◌++◌}
+use mathlib.Core.List.{List, ◌++◌}
 use native.Mathlib.Omega.{arith}
 use lib.ListN.{length, take, drop, replicate, length-drop, length-replicate, length-take}
-use lib.Seq.{sets}
 use lib.Dec.{leb}
 use borrow.Author.Rules.{rules}
 use borrow.Author.Tests.{leb-true}
 use Rattle.format.specs.Lists.{flat, over, pick}
-use Rattle.format.specs.Outcome.{Outcome, fine, refused}
+use Rattle.format.specs.Outcome.{Outcome, fine}
 use Rattle.format.specs.Records.{verdict}
 use Rattle.format.specs.Records as recs
 use Rattle.format.specs.Reading as paper

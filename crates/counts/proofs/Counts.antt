@@ -24,7 +24,7 @@ use Rattle.laws.proofs.Outcomes.{chain, passed}
 use Rattle.laws.proofs.Places.{records-at}
 use Rattle.cut.proofs.Opened.{opened, opens}
 use Rattle.cut.proofs.Steps.{entry-goes}
-use Rattle.counts.specs.Counts.{Counted, H, TableCounts, add_one, compared, counted, counts_in, counts_line, equal, first_told, letters, not_equal, or_later, tells, tells_at, told_counts, told_from}
+use Rattle.counts.specs.Counts.{Counted, H, Two, add_one, compared, counted, counts_in, counts_line, equal, first_told, letters, not_equal, or_later, tells, tells_at, told_counts, told_from}
 
 -- ------------------------------------------------------------------ the counts are the tables' own
 
@@ -32,7 +32,7 @@ same_tables : (t u : Tables) → ◌≡◌ {A = Outcome Tables} (fine t) (fine u
 same_tables t u h = cc
 
 -- how much longer the tables are
-pub record Longer (t u : Tables) (n : TableCounts) : Type 0 where
+pub record Longer (t u : Tables) (n : Two) : Type 0 where
   pub areas : length u.areas ≡ length t.areas + n.areas
   pub symbols : length u.symbols ≡ length t.symbols + n.symbols
 
@@ -51,7 +51,7 @@ body-longer t u place (symbol n r v) h =
     let s = same_tables _ u k.1 in
     rw (← s) (record { areas = omega arith; symbols = length-append t.symbols _ })
 
-one_more : (t u w : Tables) (e : Entry) (n : TableCounts) → Longer t u (add_one e (record { areas = 0; symbols = 0 })) → Longer u w n → Longer t w (add_one e n)
+one_more : (t u w : Tables) (e : Entry) (n : Two) → Longer t u (add_one e (record { areas = 0; symbols = 0 })) → Longer u w n → Longer t w (add_one e n)
 one_more t u w ignored n a b = record { areas = omega (arith, a.areas, b.areas); symbols = omega (arith, a.symbols, b.symbols) }
 one_more t u w (area m z g x) n a b = record { areas = omega (arith, a.areas, b.areas); symbols = omega (arith, a.symbols, b.symbols) }
 one_more t u w (symbol m r v) n a b = record { areas = omega (arith, a.areas, b.areas); symbols = omega (arith, a.symbols, b.symbols) }
@@ -79,7 +79,7 @@ unfolding told_counts counts_in
 counts-by-tables text p t e h = rw (e, counted-are-the-tables p.records.entries t h)
 
 -- equal, exactly
-pub equal-then : (told n : TableCounts) → compared (some told) n ≡ equal → (told.areas ≡ n.areas) × (told.symbols ≡ n.symbols)
+pub equal-then : (told n : Two) → compared (some told) n ≡ equal → (told.areas ≡ n.areas) × (told.symbols ≡ n.symbols)
 equal-then told n h = go (eqb told.areas n.areas) (eqb told.symbols n.symbols) refl refl h
   where
     no : (x : Counted) → not_equal ≡ equal → ⊥
@@ -90,7 +90,7 @@ equal-then told n h = go (eqb told.areas n.areas) (eqb told.symbols n.symbols) r
     go true false p q r = absurd (no equal r)
     go false u p q r = absurd (no equal r)
 
-pub then_equal : (told n : TableCounts) → told.areas ≡ n.areas → told.symbols ≡ n.symbols → compared (some told) n ≡ equal
+pub then_equal : (told n : Two) → told.areas ≡ n.areas → told.symbols ≡ n.symbols → compared (some told) n ≡ equal
 then_equal told n a b = rw (eq-eqb told.areas n.areas a, eq-eqb told.symbols n.symbols b)
 
 -- ------------------------------------------------------------------ the walk
@@ -117,7 +117,7 @@ module _ (f : Form) (text : List ℕ) where
     pub walk_more : (t : Taken Entry) → entry_at true f text p ≡ goes t → tells_at f.radix text p ≡ none → Walking p₀ (next_line text p)
     walk_more t e n = record { same = w.same ∙ walk-goes p t e ∙ rw n }
 
-    pub walk-told : (t : Taken Entry) → entry_at true f text p ≡ goes t → (c : TableCounts) → tells_at f.radix text p ≡ some c → told_from f text p₀ ≡ some c
+    pub walk-told : (t : Taken Entry) → entry_at true f text p ≡ goes t → (c : Two) → tells_at f.radix text p ≡ some c → told_from f text p₀ ≡ some c
     walk-told t e c n = w.same ∙ walk-goes p t e ∙ rw n
 
     pub walk_end : entry_at true f text p ≡ stops → told_from f text p₀ ≡ none

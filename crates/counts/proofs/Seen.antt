@@ -24,7 +24,7 @@ use Rattle.cut.proofs.Records.{Asc, asc-left, asc-records, ends_of}
 use Rattle.cut.proofs.Build.{prefix}
 use Rattle.cut.proofs.Verdict.{AllLe}
 use Rattle.cut.proofs.Opened.{cut_parsed, opened, opens}
-use Rattle.counts.specs.Counts.{TableCounts, compared, counted, counts_in, equal, first_told, not_equal, or_later, tells_at, told_counts}
+use Rattle.counts.specs.Counts.{Two, compared, counted, counts_in, equal, first_told, not_equal, or_later, tells_at, told_counts}
 use Rattle.cut.proofs.LineCut.{line-cut}
 use Rattle.cut.proofs.Steps.{entry-goes, entry-no-last}
 use Rattle.cut.proofs.ParsedCut.{cut-parsed, inside-all}
@@ -70,12 +70,12 @@ told-inside radix text n (t ∷ ts) h = go (leb t.end n) refl (told-inside radix
     go false e ih = ih
 
 -- what the first records tell, the whole tells
-first_of : (radix : ℕ) (text : List ℕ) (xs ys : List (Taken Entry)) (c : TableCounts) → first_told radix text xs ≡ some c → first_told radix text (xs ++ ys) ≡ some c
+first_of : (radix : ℕ) (text : List ℕ) (xs ys : List (Taken Entry)) (c : Two) → first_told radix text xs ≡ some c → first_told radix text (xs ++ ys) ≡ some c
 unfolding first_told
 first_of radix text [] ys c h = let z : ◌≡◌ {A = ℕ} 0 1 = cc in let y : ⊥ = omega arith in absurd y
 first_of radix text (x ∷ xs) ys c h = go (tells_at radix text x.place) (first_of radix text xs ys c) h
   where
-    go : (o : Option TableCounts) → (first_told radix text xs ≡ some c → first_told radix text (xs ++ ys) ≡ some c) → or_later o (first_told radix text xs) ≡ some c → or_later o (first_told radix text (xs ++ ys)) ≡ some c
+    go : (o : Option Two) → (first_told radix text xs ≡ some c → first_told radix text (xs ++ ys) ≡ some c) → or_later o (first_told radix text xs) ≡ some c → or_later o (first_told radix text (xs ++ ys)) ≡ some c
     go none f q = f q
     go (some d) f q = q
 
@@ -105,13 +105,13 @@ module _ (text : List ℕ) (p : Parsed) (e : parsed true text ≡ fine p) (n : �
   a-cut-among-the-pairs-is-not-seen h = the-counts-of-a-cut ∙ rw (inside-all n p.records.entries h, e)
 
   -- what is told inside the cut is what the whole tells
-  pub told-inside-is-told : (c : TableCounts) → first_told p.form.radix text (inside n p.records.entries) ≡ some c → first_told p.form.radix text p.records.entries ≡ some c
+  pub told-inside-is-told : (c : Two) → first_told p.form.radix text (inside n p.records.entries) ≡ some c → first_told p.form.radix text p.records.entries ≡ some c
   told-inside-is-told c h =
       let k = prefix n p.head p.records.entries ascending in
       ap (first_told p.form.radix text) (sym k.whole) ∙ first_of p.form.radix text (inside n p.records.entries) k.rest c h
 
   -- a cut behind the line that tells, that loses an area or a symbol of a module with equal counts, is seen
-  pub a-cut-that-loses-areas-is-seen : (c : TableCounts) → told_counts text ≡ equal → first_told p.form.radix text (inside n p.records.entries) ≡ some c
+  pub a-cut-that-loses-areas-is-seen : (c : Two) → told_counts text ≡ equal → first_told p.form.radix text (inside n p.records.entries) ≡ some c
       → ((counted (inside n p.records.entries)).areas ≡ (counted p.records.entries).areas → ⊥) → told_counts (take n text) ≡ not_equal
   unfolding told_counts counts_in
   a-cut-that-loses-areas-is-seen c q h lost =
@@ -120,7 +120,7 @@ module _ (text : List ℕ) (p : Parsed) (e : parsed true text ≡ fine p) (n : �
       let ne : c.areas ≡ (counted (inside n p.records.entries)).areas → ⊥ = λ x. lost (sym x ∙ same.0) in
       the-counts-of-a-cut ∙ rw (h, ne_eqb c.areas (counted (inside n p.records.entries)).areas ne)
 
-  pub a-cut-that-loses-symbols-is-seen : (c : TableCounts) → told_counts text ≡ equal → first_told p.form.radix text (inside n p.records.entries) ≡ some c
+  pub a-cut-that-loses-symbols-is-seen : (c : Two) → told_counts text ≡ equal → first_told p.form.radix text (inside n p.records.entries) ≡ some c
       → ((counted (inside n p.records.entries)).symbols ≡ (counted p.records.entries).symbols → ⊥) → told_counts (take n text) ≡ not_equal
   unfolding told_counts counts_in
   a-cut-that-loses-symbols-is-seen c q h lost =

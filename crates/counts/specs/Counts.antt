@@ -12,7 +12,7 @@ use Rattle.format.specs.Records.{Parsed, Taken, parsed}
 use Rattle.laws.specs.Places.{line_at, records_at}
 
 -- numbers of areas and of symbols
-pub record TableCounts : Type 0 where
+pub record Two : Type 0 where
   pub areas : ℕ
   pub symbols : ℕ
 
@@ -41,7 +41,7 @@ symbol_words = do
   last_word
 
 -- N areas N global symbols
-unfoldable pub two_numbers : ℕ → Reader TableCounts
+unfoldable pub two_numbers : ℕ → Reader Two
 two_numbers radix = do
   n ← number radix
   m ← field (letters areas) radix
@@ -49,7 +49,7 @@ two_numbers radix = do
   give (record { areas = n; symbols = m })
 
 -- the line
-unfoldable pub counts_line : ℕ → Reader TableCounts
+unfoldable pub counts_line : ℕ → Reader Two
 counts_line radix = do
   lead (letters H)
   two_numbers radix
@@ -60,11 +60,11 @@ whole_line n (is a used) = pick (eqb used n) (some a) none
 whole_line n (isnt r p) = none
 
 -- what the bytes of a line tell
-unfoldable pub tells : ℕ → List ℕ → Option TableCounts
+unfoldable pub tells : ℕ → List ℕ → Option Two
 tells radix s = whole_line (length s) (counts_line radix s 0)
 
 -- what the line at a place of the text tells
-unfoldable pub tells_at : ℕ → List ℕ → ℕ → Option TableCounts
+unfoldable pub tells_at : ℕ → List ℕ → ℕ → Option Two
 tells_at radix text p = tells radix (line_at text p).bytes
 
 -- the first that there is
@@ -73,22 +73,22 @@ or_later (some a) later = some a
 or_later none later = later
 
 -- the first of the records of group one that tells; only H lines do
-unfoldable pub first_told : ℕ → List ℕ → List (Taken Entry) → Option TableCounts
+unfoldable pub first_told : ℕ → List ℕ → List (Taken Entry) → Option Two
 first_told radix text [] = none
 first_told radix text (e ∷ es) = or_later (tells_at radix text e.place) (first_told radix text es)
 
 -- the same of the records of group one from a place of the text on
-unfoldable pub told_from : Form → List ℕ → ℕ → Option TableCounts
+unfoldable pub told_from : Form → List ℕ → ℕ → Option Two
 told_from f text p = first_told f.radix text (records_at true f text p).entries
 
 -- one record more
-abbrev pub add_one : Entry → TableCounts → TableCounts
+abbrev pub add_one : Entry → Two → Two
 add_one ignored n = n
 add_one (area name size flags addr) n = record { areas = suc n.areas; symbols = n.symbols }
 add_one (symbol name ref value) n = record { areas = n.areas; symbols = suc n.symbols }
 
 -- how many A lines and S lines there are
-unfoldable pub counted : List (Taken Entry) → TableCounts
+unfoldable pub counted : List (Taken Entry) → Two
 counted [] = record { areas = 0; symbols = 0 }
 counted (e ∷ es) = add_one e.body (counted es)
 
@@ -96,7 +96,7 @@ counted (e ∷ es) = add_one e.body (counted es)
 pub data Counted : Type 0 where
   equal not_equal not_told : Counted
 
-abbrev pub compared : Option TableCounts → TableCounts → Counted
+abbrev pub compared : Option Two → Two → Counted
 compared none n = not_told
 compared (some t) n = pick (eqb t.areas n.areas && eqb t.symbols n.symbols) equal not_equal
 

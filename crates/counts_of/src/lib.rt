@@ -4,7 +4,7 @@
 ghost use Rattle.std.specs.Prelude.{◌≡◌};
 ghost use Rattle.header.specs.Told.{form_of};
 ghost use Rattle.counts.specs.Counts.{compared, told_from};
-ghost use Rattle.h_line.specs.Told.{table_counts};
+ghost use Rattle.h_line.specs.Told.{two_of};
 ghost use Rattle.counts_of.specs.Told.{told_counted};
 
 use h_line::Told;
@@ -39,9 +39,9 @@ fn wide(x: u32) -> usize
 
 // What the text behind a header line that ends at head tells, compared with the counted areas and symbols.
 pub fn told_counts(t: &[u8], head: usize, form: Form, areas: usize, symbols: usize) -> Counted
-    ensures { told_counted result ≡ compared (told_from (form_of form) t.now head) (table_counts areas symbols) }
+    ensures { told_counted result ≡ compared (told_from (form_of form) t.now head) (two_of areas symbols) }
 {
-    let Told::Counts {
+    let Told::Two {
         areas: a,
         symbols: s,
     } = first_told(t, head, form)

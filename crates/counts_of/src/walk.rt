@@ -3,7 +3,7 @@ ghost use Rattle.std.specs.Prelude.{◌≡◌, true};
 ghost use Rattle.laws.specs.Places.{entry_at};
 ghost use Rattle.header.specs.Told.{form_of};
 ghost use Rattle.counts.specs.Counts.{tells_at, told_from};
-ghost use Rattle.h_line.specs.Told.{told_numbers};
+ghost use Rattle.h_line.specs.Told.{told_two};
 ghost use Rattle.counts_of.specs.Told.{told_end, end_after, group_one_end};
 
 use crate::End;
@@ -34,7 +34,7 @@ pub fn entry_end(t: &[u8], p: usize, form: Form) -> End
 
 // What the line at a place tells.
 fn tells_at(t: &[u8], p: usize, radix: u8) -> Told
-    ensures { told_numbers result ≡ tells_at radix t.now p }
+    ensures { told_two result ≡ tells_at radix t.now p }
 {
     if t.len() < p {
         return Told::Nothing;
@@ -46,7 +46,7 @@ fn tells_at(t: &[u8], p: usize, radix: u8) -> Told
 
 // The first line of group one that tells, from a place on.
 pub(crate) fn first_told(t: &[u8], head: usize, form: Form) -> Told
-    ensures { told_numbers result ≡ told_from (form_of form) t.now head }
+    ensures { told_two result ≡ told_from (form_of form) t.now head }
 {
     let mut p = head;
     while p < t.len() {

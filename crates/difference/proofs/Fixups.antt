@@ -120,6 +120,7 @@ pick-either false c h = h
 
 pub says-said : (k text : List ℕ) (ys : List Fixup) (y : Fixup) → Memᴰ y ys → k ≡ says text y → said_in k text ys ≡ true
 unfolding said_in
+says-said k text [] y x'' h = elim x'' [ ]
 says-said k text (z ∷ zs) y (Memᴰ.head e) h =
     let f : same_numbers k (says text z) ≡ true = ap (same_numbers k) (sym (h ∙ ap (says text) e)) ∙ same_refl k in
     rw f

@@ -59,6 +59,7 @@ append-none (x ∷ xs) ys h = begun h
 -- each element gives an empty list exactly if the whole is empty
 pub each_none : {A B : Type 0} (f : A → List B) (xs : List A) → each f xs ≡ [] → {x : A} → Memᴰ x xs → f x ≡ []
 unfolding each
+each_none {A = A} {B = B} f [] h x4 = elim x4 [ ]
 each_none f (y ∷ ys) h (Memᴰ.head e) = ap f e ∙ (append-none (f y) (each f ys) h).0
 each_none f (y ∷ ys) h (Memᴰ.tail m) = each_none f ys (append-none (f y) (each f ys) h).1 m
 
@@ -96,6 +97,7 @@ passing-head p y ys x false e h q = let z : ◌≡◌ {A = ℕ} 0 1 = cc in let 
 
 pub passed-passing : {A : Type 0} (p : A → Bool) (xs : List A) (x : A) → Memᴰ x xs → p x ≡ true → Memᴰ x (passing p xs)
 unfolding passing
+passed-passing {A = A} p [] x x4 h = elim x4 [ ]
 passed-passing p (y ∷ ys) x (Memᴰ.head e) h = passing-head p y ys x (p y) refl h e
 passed-passing p (y ∷ ys) x (Memᴰ.tail m) h = passing-tail p y ys x (p y) (passed-passing p ys x m h)
 
@@ -106,6 +108,7 @@ pub record Indexed {A : Type 0} (i : ℕ) (xs : List A) (x : A) : Type 0 where
 
 pub indexed : {A : Type 0} (i : ℕ) (xs : List A) (x : A) → Memᴰ x xs → Indexed i xs x
 unfolding numbered
+indexed {A = A} i [] x x3 = elim x3 [ ]
 indexed i (y ∷ ys) x (Memᴰ.head e) = record { index = i; there = Memᴰ.head (ap (λ (z : _). record { index = i; it = z }) e) }
 indexed i (y ∷ ys) x (Memᴰ.tail m) = let r = indexed (suc i) ys x m in record { index = r.index; there = Memᴰ.tail r.there }
 

@@ -125,6 +125,7 @@ each_from {A} f (x ∷ xs) c m = step (Memᴰ.append_cases (f x) m) (λ k. each_
 
 from_each : {A : Type 0} (f : A → List Change) (xs : List A) (c : Change) (x : A) → Memᴰ x xs → Memᴰ c (f x) → Memᴰ c (each f xs)
 unfolding each
+from_each {A = A} f [] c x x4 k = elim x4 [ ]
 from_each f (y ∷ ys) c x (Memᴰ.head e) k = Memᴰ.append_left (each f ys) (subst (λ (z : _). Memᴰ c (f z)) e k)
 from_each f (y ∷ ys) c x (Memᴰ.tail m) k = Memᴰ.append_right (f y) (from_each f ys c x m k)
 

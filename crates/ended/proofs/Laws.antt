@@ -20,7 +20,7 @@ use Rattle.header.specs.declared.Head.TheVariants.{Found, Missing}
 use Rattle.halt.specs.Halt.{halt_of}
 use Rattle.counts.specs.Counts.{compared, told_counts, told_from}
 use Rattle.counts.proofs.Counts.{the-walk-gives-the-answer}
-use Rattle.h_line.specs.Told.{table_counts}
+use Rattle.h_line.specs.Told.{two_of}
 use Rattle.answer.specs.Answer as reads
 use Rattle.answer.specs.declared.Answer as reading-answer
 use Rattle.answer.specs.declared.Answer.TheVariants as read
@@ -63,10 +63,10 @@ module _ {text : List ℕ} {c : Counts} {v : reading.Verdict} (w : Read text c v
       counts =
           t.counts
           ∙ ap some (
-          ap (λ (x : the.Form). compared (told_from x text (n + k)) (table_counts c.areas c.symbols)) form-read
-          ∙ ap (λ (x : ℕ). compared (told_from w.records.form text x) (table_counts c.areas c.symbols)) head_read
-          ∙ ap (λ (x : ℕ). compared (told_from w.records.form text w.records.head) (table_counts x c.symbols)) w.areas
-          ∙ ap (λ (x : ℕ). compared (told_from w.records.form text w.records.head) (table_counts (length w.rows.areas) x)) w.symbols
+          ap (λ (x : the.Form). compared (told_from x text (n + k)) (two_of c.areas c.symbols)) form-read
+          ∙ ap (λ (x : ℕ). compared (told_from w.records.form text x) (two_of c.areas c.symbols)) head_read
+          ∙ ap (λ (x : ℕ). compared (told_from w.records.form text w.records.head) (two_of x c.symbols)) w.areas
+          ∙ ap (λ (x : ℕ). compared (told_from w.records.form text w.records.head) (two_of (length w.rows.areas) x)) w.symbols
           ∙ sym (the-walk-gives-the-answer text w.records w.rows w.parses w.tables));
     }
 

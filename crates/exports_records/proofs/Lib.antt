@@ -1,4 +1,1 @@
 pub mod Converting
-pub mod Explaining
-pub mod Placing
-pub mod Writing

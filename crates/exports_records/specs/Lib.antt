@@ -1,3 +1,1 @@
 pub mod Converts
-pub mod Linked
-pub mod Places

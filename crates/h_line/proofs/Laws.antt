@@ -19,8 +19,8 @@ use Rattle.fields.specs.Told.{went}
 use Rattle.fields.specs.declared.Place.{Place}
 use Rattle.fields.specs.declared.Place.TheVariants.{At, Not}
 use Rattle.fields.proofs.Laws.Fields.{word-no, word-is}
-use Rattle.counts.specs.Counts.{H, TableCounts, areas, counts_line, global, last_word, letters, symbol_words, symbols, tells, two_numbers, whole_line}
-use Rattle.h_line.specs.Told.{table_counts}
+use Rattle.counts.specs.Counts.{H, Two, areas, counts_line, global, last_word, letters, symbol_words, symbols, tells, two_numbers, whole_line}
+use Rattle.h_line.specs.Told.{two_of}
 
 -- `last_word`
 module _ (s : List ℕ) (at : ℕ) {a : ℕ} (e : a ≡ behind (letters symbols) s at) where
@@ -64,7 +64,7 @@ module _ (radix : ℕ) (s : List ℕ) (at : ℕ) {n : Num} (e : told n ≡ numbe
       two-3 j = rw (← e, g, ← f, h, ← i, j)
 
       module _ {q : ℕ} (j : x ≡ At q) where
-        pub two-4 : q ≡ length s → some (table_counts v w) ≡ whole_line (length s) (two_numbers radix s at)
+        pub two-4 : q ≡ length s → some (two_of v w) ≡ whole_line (length s) (two_numbers radix s at)
         unfolding two_numbers
         two-4 k = rw (← e, g, ← f, h, ← i, j, eq-eqb q (length s) k)
 
@@ -78,7 +78,7 @@ module _ (radix : ℕ) (s : List ℕ) {w : Place} (e : went w ≡ lead (letters 
   unfolding tells counts_line
   tells-1 g = rw (← e, g)
 
-  pub tells-2 : {a : ℕ} → w ≡ At a → {x : Option TableCounts} → x ≡ whole_line (length s) (two_numbers radix s a) → x ≡ tells radix s
+  pub tells-2 : {a : ℕ} → w ≡ At a → {x : Option Two} → x ≡ whole_line (length s) (two_numbers radix s a) → x ≡ tells radix s
   unfolding tells counts_line
   tells-2 g h = rw (← e, g) h
 

@@ -4,11 +4,11 @@ use Rattle.std.specs.Prelude.{ℕ}
 use Rattle.std.proofs.Math.Option.{Option, none, some}
 use Rattle.counts.specs.Counts as the
 use Rattle.h_line.specs.declared.Told.{Told}
-use Rattle.h_line.specs.declared.Told.TheVariants.{Counts, Nothing}
+use Rattle.h_line.specs.declared.Told.TheVariants.{Two, Nothing}
 
-abbrev pub table_counts : ℕ → ℕ → the.TableCounts
-table_counts a s = record { areas = a; symbols = s }
+abbrev pub two_of : ℕ → ℕ → the.Two
+two_of a s = record { areas = a; symbols = s }
 
-abbrev pub told_numbers : Told → Option the.TableCounts
-told_numbers (Counts a s) = some (table_counts a s)
-told_numbers Nothing = none
+abbrev pub told_two : Told → Option the.Two
+told_two (Two a s) = some (two_of a s)
+told_two Nothing = none

@@ -4,7 +4,7 @@
 ghost use Rattle.std.specs.Prelude.{◌≡◌, length};
 ghost use Rattle.fields.specs.Told.{went};
 ghost use Rattle.counts.specs.Counts.{last_word, symbol_words, two_numbers, whole_line, tells as tells_of};
-ghost use Rattle.h_line.specs.Told.{told_numbers};
+ghost use Rattle.h_line.specs.Told.{told_two};
 
 use fields::Place;
 use numbers::Num;
@@ -13,7 +13,7 @@ use scan::Kind;
 // The numbers of areas and of global symbols that a line tells, or nothing.
 #[derive(Clone, Copy)]
 pub enum Told {
-    Counts { areas: u32, symbols: u32 },
+    Two { areas: u32, symbols: u32 },
     Nothing,
 }
 
@@ -49,7 +49,7 @@ fn symbol_words(t: &[u8], at: usize) -> Place
 
 // `N areas N global symbols` up to the line's end.
 fn two_numbers(t: &[u8], at: usize, radix: u8) -> Told
-    ensures { told_numbers result ≡ whole_line (length t.now) (two_numbers radix t.now at) }
+    ensures { told_two result ≡ whole_line (length t.now) (two_numbers radix t.now at) }
 {
     let n = quick_numbers::parse_number(t, at, radix);
     let Num::Is {
@@ -72,7 +72,7 @@ fn two_numbers(t: &[u8], at: usize, radix: u8) -> Told
         return Told::Nothing;
     };
     if next == t.len() {
-        return Told::Counts {
+        return Told::Two {
             areas: areas,
             symbols: symbols,
         };
@@ -82,7 +82,7 @@ fn two_numbers(t: &[u8], at: usize, radix: u8) -> Told
 
 // What the bytes of a line tell.
 pub fn tells(t: &[u8], radix: u8) -> Told
-    ensures { told_numbers result ≡ tells_of radix t.now }
+    ensures { told_two result ≡ tells_of radix t.now }
 {
     match fields::lead_at(t, 0, b"H") {
         Place::At { next } => two_numbers(t, next, radix),

@@ -62,7 +62,7 @@ pub rank-past : (areas : List ℕ) (k j n i : ℕ) → n ≤ i → rank k (from 
 unfolding rank from
 rank-past areas k j zero i h = refl
 rank-past areas k j (suc n) zero h = absurd (omega arith)
-rank-past areas k j (suc n) (suc i) h = rank-past areas _ (suc j) n i (omega arith)
+rank-past areas k j (suc n) (suc i) h = rank-past areas (k + pick (kept (area_at areas j)) 1 0) (suc j) n i (omega arith)
 
 -- of the first j areas k are kept
 pub record Ranking (areas : List ℕ) (n i k j : ℕ) : Type 0 where

@@ -146,7 +146,7 @@ two-lines : (ended : Bool) (f : Form) (p : ℕ) (t : Line) (ys : List ℕ) (k e 
     ≡ consed (step_of ended p n e N (pair_lines f t (record { bytes = take k ys; ends = e }))) (pairs ended f N (lines_of ended (drop (k + e) ys)))
 unfolding pairs pair_step width
 two-lines true f p t ys k zero n N h i j = rw (no_end p n N (pair_lines f t (record { bytes = take k ys; ends = 0 })))
-two-lines false f p t ys k zero n N h i j = rw (i, length-take-le k ys h) (cons-last p _ _ N (pair_lines f t (record { bytes = take k ys; ends = 0 })) _ _)
+two-lines false f p t ys k zero n N h i j = rw (i, length-take-le k ys h) (cons-last p _ N N (pair_lines f t (record { bytes = take k ys; ends = 0 })) _ _)
 two-lines ended f p t ys k (suc e) n N h i j = rw (i, j, length-take-le k ys h)
 
 consed-pick : (t : Bool) (x : Step Pair) (rest : List (Taken Pair)) → pick t [] (consed x rest) ≡ consed (pick t stops x) rest

@@ -4,7 +4,7 @@ ghost use Rattle.header.specs.Told.{form_of, more_of};
 ghost use Rattle.admission.specs.Admits.{IsRead};
 ghost use Rattle.one_position.specs.Explain.{Rowed, TablesTell, Told};
 
-use crate::answer::answer;
+use crate::told::answer;
 use header::{Form, Head, Width};
 use pairs_answer::PairsAnswer;
 use position_answer::Explained;

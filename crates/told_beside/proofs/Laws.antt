@@ -13,7 +13,7 @@ use Rattle.line_halt.specs.Told as halts
 use Rattle.line_halt.specs.declared.Halt as code
 use Rattle.counts.specs.Counts.{compared, told_from}
 use Rattle.counts_of.specs.Told.{group_one_end, told_counted}
-use Rattle.h_line.specs.Told.{table_counts}
+use Rattle.h_line.specs.Told.{two_of}
 use Rattle.counts_of.specs.declared.Counted.{Counted}
 use Rattle.answer.specs.Answer as reads
 use Rattle.answer.specs.declared.Counts.{Counts}
@@ -50,7 +50,7 @@ judged-same f text head reading-verdict.Finished = refl
 judged-same f text head (reading-verdict.Stopped place) = refl
 
 -- `accepted`
-pub accepted-tells : (f : Form) (text : List ℕ) (head : ℕ) (c : Counts) (v : reading.Verdict) {u : Counted} → told_counted u ≡ compared (told_from f text head) (table_counts c.areas c.symbols)
+pub accepted-tells : (f : Form) (text : List ℕ) (head : ℕ) (c : Counts) (v : reading.Verdict) {u : Counted} → told_counted u ≡ compared (told_from f text head) (two_of c.areas c.symbols)
     → {j : Verdict} → j ≡ judged f text head v → Tells f text head c v (Accepted c j u)
 accepted-tells f text head c v {u} a {j} b = record {
   same = ap (λ (x : Verdict). told (Accepted c x u)) b ∙ ap (paper.accepted (reads.told_counts c)) (judged-same f text head v);

@@ -7,7 +7,7 @@ use Rattle.format.specs.Reading as paper
 use Rattle.halt.specs.Halt.{Halt, halt_at}
 use Rattle.counts.specs.Counts as the-counts
 use Rattle.counts_of.specs.Told.{group_one_end}
-use Rattle.h_line.specs.Told.{table_counts}
+use Rattle.h_line.specs.Told.{two_of}
 use Rattle.answer.specs.Answer as reads
 use Rattle.answer.specs.declared.Counts.{Counts}
 use Rattle.answer.specs.declared.Verdict as reading
@@ -33,4 +33,4 @@ accepted_with c v = paper.accepted (reads.told_counts c) (reads.told_verdict v)
 pub record Tells (f : Form) (text : List ℕ) (head : ℕ) (c : Counts) (v : reading.Verdict) (r : Answer) : Type 0 where
   pub same : told r ≡ accepted_with c v
   pub halts : told_halt r ≡ halt_in (judged f text head v)
-  pub counts : told_word r ≡ some (the-counts.compared (the-counts.told_from f text head) (table_counts c.areas c.symbols))
+  pub counts : told_word r ≡ some (the-counts.compared (the-counts.told_from f text head) (two_of c.areas c.symbols))

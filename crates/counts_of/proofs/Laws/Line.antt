@@ -22,7 +22,7 @@ use Rattle.entry_line.specs.declared.EntryLine.{EntryLine}
 use Rattle.entry_line.specs.declared.EntryLine.TheVariants.{Is, No}
 use Rattle.text_lines.specs.Lines.{LineIs}
 use Rattle.text_lines.specs.declared.LineAt.{LineAt}
-use Rattle.counts.specs.Counts.{TableCounts, tells, tells_at}
+use Rattle.counts.specs.Counts.{Two, tells, tells_at}
 use Rattle.counts.proofs.Counts.{only-H-lines-tell}
 use Rattle.counts_of.specs.Told.{end_after}
 
@@ -63,7 +63,7 @@ module _ (radix : ℕ) (text : List ℕ) (p : ℕ) where
   unfolding tells_at line_at
   told-past h = rw (no_bytes text p (line_end text p - p) h) (sym (only-H-lines-tell radix [] refl))
 
-  pub told_line : {l : LineAt} → LineIs text p l → {x : Option TableCounts} → x ≡ tells radix (take (l.end - p) (drop p text)) → x ≡ tells_at radix text p
+  pub told_line : {l : LineAt} → LineIs text p l → {x : Option Two} → x ≡ tells radix (take (l.end - p) (drop p text)) → x ≡ tells_at radix text p
   unfolding tells_at line_at
   told_line w e = rw (← w.ends_at) e
 

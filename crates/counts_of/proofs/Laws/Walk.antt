@@ -16,9 +16,9 @@ use Rattle.format.specs.Records.{Step, Taken, goes, last, records, stops}
 use Rattle.laws.specs.Places.{end_at, entry_at, line_end, next_line, records_at}
 use Rattle.laws.proofs.Places.{records-at}
 use Rattle.cut.proofs.Steps.{entry-goes, entry-no-last}
-use Rattle.counts.specs.Counts.{TableCounts, first_told, tells_at, told_from}
+use Rattle.counts.specs.Counts.{Two, first_told, tells_at, told_from}
 use Rattle.counts.proofs.Counts.{Walking, walk_end, walk_more, walk_start, walk-told}
-use Rattle.h_line.specs.Told.{told_numbers, table_counts}
+use Rattle.h_line.specs.Told.{told_two, two_of}
 use Rattle.counts_of.specs.Told.{end_after, group_one_end, told_end}
 use Rattle.counts_of.specs.declared.End.{End}
 use Rattle.counts_of.specs.declared.End.TheVariants.{At, Stops}
@@ -72,12 +72,12 @@ module _ (f : Form) (text : List ℕ) (p : ℕ) {r : End} (e : told_end r ≡ en
     pub told-stop : r ≡ Stops → none ≡ told_from f text p₀
     told-stop g = sym (walk_end f text w (stops-here g))
 
-    module _ {n : ℕ} (g : r ≡ At n) {d : Told} (i : told_numbers d ≡ tells_at f.radix text p) where
-      pub told-found : {a s : ℕ} → d ≡ told.Counts a s → {x : Option TableCounts} → x ≡ tells_at f.radix text p → x ≡ told_from f text p₀
+    module _ {n : ℕ} (g : r ≡ At n) {d : Told} (i : told_two d ≡ tells_at f.radix text p) where
+      pub told-found : {a s : ℕ} → d ≡ told.Two a s → {x : Option Two} → x ≡ tells_at f.radix text p → x ≡ told_from f text p₀
       told-found {a} {s} h j =
           let k = goes_on g in
-          let t : tells_at f.radix text p ≡ some (table_counts a s) = sym i ∙ rw h in
-          j ∙ t ∙ sym (walk-told f text w k.taken k.is-taken (table_counts a s) t)
+          let t : tells_at f.radix text p ≡ some (two_of a s) = sym i ∙ rw h in
+          j ∙ t ∙ sym (walk-told f text w k.taken k.is-taken (two_of a s) t)
 
       pub told_more : d ≡ told.Nothing → Walking f text p₀ n
       told_more h =

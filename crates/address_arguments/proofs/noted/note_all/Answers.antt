@@ -1,0 +1,20 @@
+use borrow.Author.Rules.{rules}
+use Rattle.address_arguments.proofs.noted.note_all.Goals as goal
+
+pub loop-i-init : goal.loop-i-init
+loop-i-init c = search rules
+
+pub note_given-requires : goal.note_given-requires
+note_given-requires c = search rules
+
+pub end_of-i-requires : goal.end_of-i-requires
+end_of-i-requires c = search rules
+
+pub loop-i-smaller : goal.loop-i-smaller
+loop-i-smaller c = search rules
+
+pub loop-i-preserved : goal.loop-i-preserved
+loop-i-preserved c = search rules
+
+pub returns : goal.returns
+returns c = search rules

@@ -1,0 +1,10 @@
+use Rattle.cells.proofs.Laws.{Storing}
+use Prim.Native.Nat.{◌-◌}
+use lib.ListN.{replicate}
+use Rattle.cells.proofs.fill_bytes.Given as goal
+
+abbrev pub invariant-loop-i : goal.invariant-loop-i
+invariant-loop-i l = Storing l.initial.dst (replicate l.n l.v) l.at l.k l.dst l.i
+
+abbrev pub decreases-loop-i : goal.decreases-loop-i
+decreases-loop-i l = l.k - l.i

@@ -1,0 +1,8 @@
+use Rattle.header.proofs.Laws.{headed}
+use Rattle.header.proofs.is_order.Goals as goal
+
+pub returns-then-b-eq72 : goal.returns-then-b-eq72
+returns-then-b-eq72 c = search headed
+
+pub returns : goal.returns
+returns c = search headed

@@ -1,0 +1,29 @@
+use Rattle.joined.proofs.Laws.{widths}
+use Rattle.joined.proofs.parse_multi_number.Goals as goal
+
+pub enum_told-1 : goal.enum_told-1
+enum_told-1 c = search widths
+
+pub two_of-requires : goal.two_of-requires
+two_of-requires c = search widths
+
+pub enum_told-in-Three : goal.enum_told-in-Three
+enum_told-in-Three c = search widths
+
+pub three_of-requires : goal.three_of-requires
+three_of-requires c = search widths
+
+pub enum_told-in-Four : goal.enum_told-in-Four
+enum_told-in-Four c = search widths
+
+pub four_of-requires : goal.four_of-requires
+four_of-requires c = search widths
+
+pub returns-in-Two : goal.returns-in-Two
+returns-in-Two c = search widths
+
+pub returns-in-Three : goal.returns-in-Three
+returns-in-Three c = search widths
+
+pub returns-in-Four : goal.returns-in-Four
+returns-in-Four c = search widths

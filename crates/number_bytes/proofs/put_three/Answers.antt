@@ -1,0 +1,29 @@
+use Rattle.number_bytes.proofs.Laws.{numbering}
+use Rattle.number_bytes.proofs.put_three.Goals as goal
+
+pub low-a-requires : goal.low-a-requires
+low-a-requires c = search numbering
+
+pub low-b-requires : goal.low-b-requires
+low-b-requires c = search numbering
+
+pub low-c-requires : goal.low-c-requires
+low-c-requires c = search numbering
+
+pub put3-requires : goal.put3-requires
+put3-requires c = search numbering
+
+pub put3-requires-else-big : goal.put3-requires-else-big
+put3-requires-else-big c = search numbering
+
+pub shape_of-out-then-big : goal.shape_of-out-then-big
+shape_of-out-then-big c = search numbering
+
+pub returns-then-big : goal.returns-then-big
+returns-then-big c = search numbering
+
+pub shape_of-out-else-big : goal.shape_of-out-else-big
+shape_of-out-else-big c = search numbering
+
+pub returns-else-big : goal.returns-else-big
+returns-else-big c = search numbering

@@ -1,0 +1,11 @@
+use Rattle.one_position.proofs.PairLaws.{by_rows}
+use Rattle.one_position.proofs.pair.by_rows.Goals as goal
+
+pub columns_at-requires : goal.columns_at-requires
+columns_at-requires c = search by_rows
+
+pub by_columns-requires : goal.by_columns-requires
+by_columns-requires c = search by_rows
+
+pub returns : goal.returns
+returns c = search by_rows

@@ -1,0 +1,14 @@
+use Rattle.probe_line.proofs.Laws.{probing}
+use Rattle.probe_line.proofs.probe_whole.Goals as goal
+
+pub form_from-requires : goal.form_from-requires
+form_from-requires c = search probing
+
+pub whole_content-requires : goal.whole_content-requires
+whole_content-requires c = search probing
+
+pub content_row-requires : goal.content_row-requires
+content_row-requires c = search probing
+
+pub returns : goal.returns
+returns c = search probing

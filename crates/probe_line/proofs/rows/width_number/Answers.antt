@@ -1,0 +1,20 @@
+use Rattle.probe_line.proofs.Laws.{small}
+use Rattle.probe_line.proofs.rows.width_number.Goals as goal
+
+pub enum_told-1 : goal.enum_told-1
+enum_told-1 c = search small
+
+pub enum_told-in-Three : goal.enum_told-in-Three
+enum_told-in-Three c = search small
+
+pub enum_told-in-Four : goal.enum_told-in-Four
+enum_told-in-Four c = search small
+
+pub returns-in-Two : goal.returns-in-Two
+returns-in-Two c = search small
+
+pub returns-in-Three : goal.returns-in-Three
+returns-in-Three c = search small
+
+pub returns-in-Four : goal.returns-in-Four
+returns-in-Four c = search small

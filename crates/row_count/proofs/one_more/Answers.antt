@@ -1,0 +1,14 @@
+use Rattle.row_count.proofs.CountLaws.{counting}
+use Rattle.row_count.proofs.one_more.Goals as goal
+
+pub returns-then-n-i : goal.returns-then-n-i
+returns-then-n-i c = search counting
+
+pub returns-then-k-ge1024 : goal.returns-then-k-ge1024
+returns-then-k-ge1024 c = search counting
+
+pub overflow_add-result : goal.overflow_add-result
+overflow_add-result c = search counting
+
+pub returns : goal.returns
+returns c = search counting

@@ -1,0 +1,23 @@
+use Rattle.symbol_changes.proofs.Names.{gathers}
+use Rattle.symbol_changes.proofs.new_symbols.Goals as goal
+
+pub loop-i-init : goal.loop-i-init
+loop-i-init c = search gathers
+
+pub new_symbol-count-requires : goal.new_symbol-count-requires
+new_symbol-count-requires c = search gathers
+
+pub overflow_add-i : goal.overflow_add-i
+overflow_add-i c = search gathers
+
+pub loop-i-smaller : goal.loop-i-smaller
+loop-i-smaller c = search gathers
+
+pub loop-i-preserved : goal.loop-i-preserved
+loop-i-preserved c = search gathers
+
+pub shape_of-list : goal.shape_of-list
+shape_of-list c = search gathers
+
+pub returns : goal.returns
+returns c = search gathers

@@ -1,0 +1,14 @@
+use Rattle.way_in.proofs.Laws.{highs}
+use Rattle.way_in.proofs.first_high.Goals as goal
+
+pub highest-requires : goal.highest-requires
+highest-requires c = search highs
+
+pub returns-then-highest-lt128 : goal.returns-then-highest-lt128
+returns-then-highest-lt128 c = search highs
+
+pub find_high-requires : goal.find_high-requires
+find_high-requires c = search highs
+
+pub returns : goal.returns
+returns c = search highs

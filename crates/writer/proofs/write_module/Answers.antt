@@ -1,0 +1,22 @@
+use Rattle.writer.proofs.Laws.{good-writes, modules}
+use Rattle.writer.proofs.write_module.Goals as goal
+
+pub rows_good-requires : goal.rows_good-requires
+rows_good-requires c = search modules
+
+pub returns-then-not-rows_good : goal.returns-then-not-rows_good
+returns-then-not-rows_good c = search modules
+
+pub slice_bounds-write_with-end : goal.slice_bounds-write_with-end
+slice_bounds-write_with-end c = search modules
+
+pub write_with-requires : goal.write_with-requires
+write_with-requires c = search modules
+
+pub shape_of-out : goal.shape_of-out
+shape_of-out c = search modules
+
+pub returns : goal.returns
+returns c =
+    let f = c.args.form in
+    good-writes f.radix f.big f.width _ c.shared_slice_known-2-1.given c.shared_slice_known-3-1.given c.shared_slice_known-5-1.given c.rows_good.ensures c.if-not-rows_good.false c.write_with.ensures
