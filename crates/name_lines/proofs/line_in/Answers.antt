@@ -19,9 +19,6 @@ shape_of-name-in-Failed g c = search rules
 pub returns-in-Failed : goal.returns-in-Failed
 returns-in-Failed g c = search rules
 
-pub enum_told-in-End : goal.enum_told-in-End
-enum_told-in-End g c = search rules
-
 pub last-requires : goal.last-requires
 last-requires g c = search rules
 
