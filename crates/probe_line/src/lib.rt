@@ -1,4 +1,5 @@
 // The readers of text and lines for a program in another language: bytes go in as slices, answers come back as rows of numbers.
+// `probe_line_c` exports them.
 #![tactic(auto)]
 
 mod rows;
@@ -32,96 +33,84 @@ pub struct Row {
 }
 
 // A number of a radix.
-#[unsafe(no_mangle)]
-pub extern "C" fn probe_number(t: &[u8], at: usize, radix: u8) -> Row
+pub fn probe_number(t: &[u8], at: usize, radix: u8) -> Row
     ensures { result ≡ number_row (number radix t.now at) }
 {
     number_row(quick_numbers::parse_number(t, at, radix))
 }
 
 // A byte.
-#[unsafe(no_mangle)]
-pub extern "C" fn probe_byte(t: &[u8], at: usize, radix: u8) -> Row
+pub fn probe_byte(t: &[u8], at: usize, radix: u8) -> Row
     ensures { result ≡ number_row (byte radix t.now at) }
 {
     number_row(quick_numbers::parse_byte(t, at, radix))
 }
 
 // An address of two, three or else four bytes.
-#[unsafe(no_mangle)]
-pub extern "C" fn probe_address(t: &[u8], at: usize, radix: u8, big: bool, width: u8) -> Row
+pub fn probe_address(t: &[u8], at: usize, radix: u8, big: bool, width: u8) -> Row
     ensures { result ≡ number_row (joined radix big (more_of (width_of width)) t.now at) }
 {
     number_row(joined::parse_multi_number(t, at, radix, big, width_from(width)))
 }
 
 // An index.
-#[unsafe(no_mangle)]
-pub extern "C" fn probe_index(t: &[u8], at: usize, radix: u8, big: bool) -> Row
+pub fn probe_index(t: &[u8], at: usize, radix: u8, big: bool) -> Row
     ensures { result ≡ number_row (index radix big t.now at) }
 {
     number_row(joined::parse_area_index(t, at, radix, big))
 }
 
 // A mode.
-#[unsafe(no_mangle)]
-pub extern "C" fn probe_mode(t: &[u8], at: usize, radix: u8) -> Row
+pub fn probe_mode(t: &[u8], at: usize, radix: u8) -> Row
     ensures { result ≡ number_row (mode_of radix t.now at) }
 {
     number_row(modes::parse_extended_mode(t, at, radix))
 }
 
 // The header: radix, order and address length.
-#[unsafe(no_mangle)]
-pub extern "C" fn probe_header(t: &[u8]) -> Row
+pub fn probe_header(t: &[u8]) -> Row
     ensures { result ≡ head_row (header t.now) }
 {
     head_row(header::format_spec(t))
 }
 
 // The line at a place: where its bytes end, its line end's length, and the place behind both.
-#[unsafe(no_mangle)]
-pub extern "C" fn probe_line_at(t: &[u8], at: usize) -> Row
+pub fn probe_line_at(t: &[u8], at: usize) -> Row
     ensures { LineRow t.now at result }
 {
     line_row(t, at)
 }
 
 // A line that begins with one of the letters.
-#[unsafe(no_mangle)]
-pub extern "C" fn probe_ignored(t: &[u8], letters: &[u8]) -> Row
+pub fn probe_ignored(t: &[u8], letters: &[u8]) -> Row
     ensures { result ≡ place_row (letter_and_more (one_of letters.now) tt t.now 0) }
 {
     place_row(fields::ignore_line(t, letters))
 }
 
 // An A line.
-#[unsafe(no_mangle)]
-pub extern "C" fn probe_area(t: &[u8], radix: u8, big: bool, width: u8) -> Row
+pub fn probe_area(t: &[u8], radix: u8, big: bool, width: u8) -> Row
     ensures { result ≡ entry_row (area_line (form_of (form_from radix big width)) t.now 0) }
 {
     entry_row(entry_line::parse_area(t, form_from(radix, big, width)))
 }
 
 // An S line.
-#[unsafe(no_mangle)]
-pub extern "C" fn probe_symbol(t: &[u8], radix: u8, big: bool, width: u8) -> Row
+pub fn probe_symbol(t: &[u8], radix: u8, big: bool, width: u8) -> Row
     ensures { result ≡ entry_row (symbol_line (form_of (form_from radix big width)) t.now 0) }
 {
     entry_row(entry_line::parse_symdefref(t, form_from(radix, big, width)))
 }
 
 // A line of group one.
-#[unsafe(no_mangle)]
-pub extern "C" fn probe_entry(t: &[u8], radix: u8, big: bool, width: u8) -> Row
+pub fn probe_entry(t: &[u8], radix: u8, big: bool, width: u8) -> Row
     ensures { result ≡ entry_row (entry_line (form_of (form_from radix big width)) t.now 0) }
 {
     entry_row(entry_line::parse_entry(t, form_from(radix, big, width)))
 }
 
 // A T line; its first 256 content bytes are written.
-#[unsafe(no_mangle)]
-pub extern "C" fn probe_content(
+pub fn probe_content(
     t: &[u8],
     radix: u8,
     big: bool,
@@ -134,16 +123,14 @@ pub extern "C" fn probe_content(
 }
 
 // A T line that has to be used whole.
-#[unsafe(no_mangle)]
-pub extern "C" fn probe_whole(t: &[u8], radix: u8, big: bool, width: u8, out: &mut [u8; 256]) -> Row
+pub fn probe_whole(t: &[u8], radix: u8, big: bool, width: u8, out: &mut [u8; 256]) -> Row
     ensures { ContentRow (whole_content (form_of (form_from radix big width)) t.now) (content_line (form_of (form_from radix big width)) t.now 0) out.old result out.new }
 {
     content_row(pair_line::whole_content(t, form_from(radix, big, width), out))
 }
 
 // An R line; its first 64 fragments are written, a column each for modes, entries and indexes.
-#[unsafe(no_mangle)]
-pub extern "C" fn probe_relocation(
+pub fn probe_relocation(
     t: &[u8],
     radix: u8,
     big: bool,

@@ -14,7 +14,11 @@ pub returns-then-runs_past : goal.returns-then-runs_past
 returns-then-runs_past c = search stepping
 
 pub apply-requires : goal.apply-requires
-apply-requires c = (has_room c.requires.short c.runs_past.ensures c.if-runs_past.false (search stepping), (has_room c.requires.short c.runs_past.ensures c.if-runs_past.false (search stepping), has_room c.requires.short c.runs_past.ensures c.if-runs_past.false (search stepping)))
+apply-requires c = record {
+  three_in_bounds = has_room c.requires.short c.runs_past.ensures c.if-runs_past.false (search stepping);
+  three_in_bounds_2 = has_room c.requires.short c.runs_past.ensures c.if-runs_past.false (search stepping);
+  three_in_bounds_3 = has_room c.requires.short c.runs_past.ensures c.if-runs_past.false (search stepping);
+}
 
 pub enum_known-x : goal.enum_known-x
 enum_known-x c = search stepping

@@ -21,7 +21,11 @@ pub returns-then-site-p : goal.returns-then-site-p
 returns-then-site-p c = search walking
 
 pub entry_rows-r-requires : goal.entry_rows-r-requires
-entry_rows-r-requires c = (search walking, (search walking, (search walking, search walking, search walking)))
+entry_rows-r-requires c = record {
+  ready = search walking;
+  clear = search walking;
+  made_in_bounds = (search walking, search walking, search walking);
+}
 
 pub enum_known-r : goal.enum_known-r
 enum_known-r c = search walking
