@@ -1,6 +1,7 @@
 // Three arguments: what they choose an address for, and the address.
 use alike::same_name;
 use numbers::Num;
+use std::env::Env;
 
 // An address for the kept area of an id, or for the outside symbol that the second argument names; or the words are wrong.
 #[derive(Clone, Copy)]
@@ -60,16 +61,16 @@ fn address_of(word: &[u8]) -> Address {
 }
 
 // The address that argument i gives.
-fn address_at(i: usize) -> Address {
+fn address_at(rt: &impl Env, i: usize) -> Address {
     let mut word = [0u8; 16];
-    let n = os::arg(i, &mut word);
+    let n = host::argument_or_none(rt, i, &mut word);
     address_of(sink::first_bytes(&word, n))
 }
 
 // What argument i says is to have an address.
-fn kind_at(i: usize) -> Kind {
+fn kind_at(rt: &impl Env, i: usize) -> Kind {
     let mut word = [0u8; 8];
-    let n = os::arg(i, &mut word);
+    let n = host::argument_or_none(rt, i, &mut word);
     if same_name(sink::first_bytes(&word, n), b"area") {
         return Kind::Area;
     }
@@ -95,38 +96,38 @@ fn area_of(word: &[u8], address: u64) -> Given {
 }
 
 // The same of argument i.
-fn area_at(i: usize, address: u64) -> Given {
+fn area_at(rt: &impl Env, i: usize, address: u64) -> Given {
     let mut word = [0u8; 16];
-    let n = os::arg(i, &mut word);
+    let n = host::argument_or_none(rt, i, &mut word);
     area_of(sink::first_bytes(&word, n), address)
 }
 
 // What the three arguments from one on give; too few are wrong.
-pub(crate) fn given_at(i: usize, count: usize) -> Given {
-    let last = address_at(sink::end_of(i, 2, count));
+pub(crate) fn given_at(rt: &impl Env, i: usize, count: usize) -> Given {
+    let last = address_at(rt, sink::end_of(i, 2, count));
     let Address::Is(address) = last else {
         return Given::Wrong;
     };
-    match kind_at(i) {
-        Kind::Area => area_at(sink::end_of(i, 1, count), address),
+    match kind_at(rt, i) {
+        Kind::Area => area_at(rt, sink::end_of(i, 1, count), address),
         Kind::Symbol => Given::Symbol { address: address },
         Kind::Other => Given::Wrong,
     }
 }
 
 // Whether three arguments give something.
-fn is_right(i: usize, count: usize) -> bool {
-    match given_at(i, count) {
+fn is_right(rt: &impl Env, i: usize, count: usize) -> bool {
+    match given_at(rt, i, count) {
         Given::Wrong => false,
         _ => true,
     }
 }
 
 // Whether the arguments from one on choose addresses, three words each.
-pub fn are_right(first: usize, count: usize) -> bool {
+pub fn are_right(rt: &impl Env, first: usize, count: usize) -> bool {
     let mut i = first;
     while i < count {
-        if !is_right(i, count) {
+        if !is_right(rt, i, count) {
             return false;
         }
         i = sink::end_of(i, 3, count);

@@ -2,6 +2,7 @@
 use crate::given::{Given, given_at};
 use crate::{Addresses, missing};
 use alike::same_name;
+use std::env::Env;
 use symbol_rows::{is_ref, symbol_name};
 
 // A 1 for each address that is chosen.
@@ -44,6 +45,7 @@ fn note_named(
 
 // The same of the name that argument i gives; one that no outside symbol has is told.
 fn note_symbol(
+    rt: &impl Env,
     text: &[u8],
     symbols: &[u32],
     n: usize,
@@ -53,7 +55,7 @@ fn note_symbol(
     flags: &mut Flags,
 ) -> bool {
     let mut word = io::large_buffer();
-    let k = os::arg(i, &mut word);
+    let k = host::argument_or_none(rt, i, &mut word);
     let name = sink::first_bytes(&word, k);
     if note_named(text, symbols, n, name, address, addresses, flags) {
         return true;
@@ -80,6 +82,7 @@ fn note_area(
 
 // Notes what three arguments give.
 fn note_given(
+    rt: &impl Env,
     text: &[u8],
     symbols: &[u32],
     n: usize,
@@ -89,9 +92,10 @@ fn note_given(
     addresses: &mut Addresses,
     flags: &mut Flags,
 ) -> bool {
-    match given_at(i, count) {
+    match given_at(rt, i, count) {
         Given::Area { id, address } => note_area(kept, cells::wide(id), address, addresses, flags),
         Given::Symbol { address } => note_symbol(
+            rt,
             text,
             symbols,
             n,
@@ -106,6 +110,7 @@ fn note_given(
 
 // Notes what all arguments from one on give. Whatever is not there is told.
 fn note_all(
+    rt: &impl Env,
     text: &[u8],
     symbols: &[u32],
     n: usize,
@@ -118,7 +123,7 @@ fn note_all(
     let mut all = true;
     let mut i = first;
     while i < count {
-        if !note_given(text, symbols, n, kept, i, count, addresses, flags) {
+        if !note_given(rt, text, symbols, n, kept, i, count, addresses, flags) {
             all = false;
         }
         i = sink::end_of(i, 3, count);
@@ -129,6 +134,7 @@ fn note_all(
 // The addresses that the arguments from one on choose for the kept areas and the n symbols of a text; whether each kept area and each outside symbol has one. What has none is told, and so is what is not
 // there. Of two addresses for one the last counts.
 pub fn choose(
+    rt: &impl Env,
     text: &[u8],
     symbols: &[u32],
     n: usize,
@@ -138,7 +144,9 @@ pub fn choose(
     addresses: &mut Addresses,
 ) -> bool {
     let mut flags: Flags = [0u8; 1088];
-    let there = note_all(text, symbols, n, kept, first, count, addresses, &mut flags);
+    let there = note_all(
+        rt, text, symbols, n, kept, first, count, addresses, &mut flags,
+    );
     let areas = missing::areas_have(kept, &flags);
     let names = missing::symbols_have(text, symbols, n, &flags);
     there && areas && names

@@ -2,48 +2,48 @@
 #![tactic(auto)]
 
 use console::{Input, Room};
+use host::{Failure, Host};
+use std::io::Read;
 
 // Tells why a file cannot be opened.
-fn unopened(name: &[u8]) -> Input {
+fn unopened(name: &[u8], why: Failure) -> Input {
     if name.len() == 0 {
-        console::tell_reason(b"(empty name)");
+        console::tell_reason(b"(empty name)", why);
     } else {
-        console::tell_reason(name);
+        console::tell_reason(name, why);
     }
-    Input::Failed
+    Input::Failed(why)
 }
 
-// The text of a descriptor; that it cannot be read is told.
-fn of_descriptor(fd: i32, name: &[u8], room: &mut Room) -> Input {
-    let input = console::fill(fd, room);
+// The text of a reader; that it cannot be read is told.
+fn of_reader(reader: &mut impl Read, name: &[u8], room: &mut Room) -> Input {
+    let input = console::fill(reader, room);
     match input {
-        Input::Failed => console::tell_reason(name),
+        Input::Failed(why) => console::tell_reason(name, why),
         Input::Text(_) => {}
     }
     input
 }
 
 // The text of a file.
-fn of_file(file: &[u8], room: &mut Room) -> Input {
+fn of_file(rt: &impl Host, file: &[u8], room: &mut Room) -> Input {
     if file.len() == 1 && cells::byte_at(file, 0) == b'-' {
-        return of_descriptor(libc::STDIN_FILENO, file, room);
+        return of_reader(&mut rt.reader(), file, room);
     }
-    let fd = os::open_read(file);
-    if fd < 0 {
-        return unopened(file);
+    match host::open(rt, file) {
+        Ok(mut opened) => of_reader(&mut opened, file, room),
+        Err(why) => unopened(file, why),
     }
-    let input = of_descriptor(fd, file, room);
-    libc::close(fd);
-    input
 }
 
 // The text that the i-th argument names, at the start of the room; of one that cannot be read standard error is told why.
-pub fn fetch(i: usize, room: &mut Room) -> Input {
+pub fn fetch(rt: &impl Host, i: usize, room: &mut Room) -> Input {
     let mut file = io::buffer();
-    let n = os::arg(i, &mut file);
-    if os::errno() != 0 {
-        cells::copy_bytes(&mut file, 60, b"..", 2);
-        return unopened(sink::first_bytes(&file, 62));
+    match host::argument(rt, i, &mut file) {
+        Ok(n) => of_file(rt, sink::first_bytes(&file, n), room),
+        Err(why) => {
+            cells::copy_bytes(&mut file, 60, b"..", 2);
+            unopened(sink::first_bytes(&file, 62), why)
+        }
     }
-    of_file(sink::first_bytes(&file, n), room)
 }

@@ -106,6 +106,7 @@ module _ (p r : List ℕ) (n : ℕ) (out order : List ℕ) {w : Wrote} (e : answ
 
   pub write_done : {long : ℕ} {new_out new_order : List ℕ} → w ≡ Book long → new_order ≡ sets order 0 (numbers_of p r n) → new_out ≡ sets out 0 (book_of (map (entry_at p r) (numbers_of p r n)))
       → Written p r n out order (Book long) new_out new_order
+  unfolding answer_to
   write_done {long} g s f =
       let a = answered p r n (length order) (length out) long (e ∙ rw g) in
       let plan = plan-of p r n (length out) long a.1 in

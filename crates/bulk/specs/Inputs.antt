@@ -7,4 +7,4 @@ use Rattle.bulk.specs.declared.Input.TheVariants.{Text, Failed}
 -- no more than the room takes
 abbrev pub Within : Input → ℕ → Type 0
 Within (Text n) room = n ≤ room
-Within Failed room = Unit {0}
+Within (Failed why) room = Unit {0}

@@ -9,7 +9,7 @@ use symbol_rows::symbol_name;
 // The kind of a symbol that only the older text has.
 pub const SYMBOL_ONLY_OLD: u32 = 8;
 
-// The newer text at the lifetime of the older one, which it outlives. The borrow checker does not cover it: it is proved by hand.
+// The newer text at the lifetime of the older one, which it outlives.
 pub(crate) fn as_long<'a, 'b: 'a>(older: &'a [u8], newer: &'b [u8]) -> &'a [u8]
     ensures { result.now ≡ newer.now }
 {
@@ -34,7 +34,7 @@ pub(crate) fn changed_name<'a, 'b: 'a>(
     symbol_name(as_long(older, newer), news, j)
 }
 
-// The same, each text with its lifetime: at any that both outlive. The borrow checker does not cover it: it is proved by hand.
+// The same, each text with its lifetime: at any that both outlive.
 pub fn name_of<'a: 'r, 'b: 'r, 'r>(
     older: &'a [u8],
     newer: &'b [u8],

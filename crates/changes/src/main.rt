@@ -6,6 +6,7 @@ mod rows;
 mod told;
 
 use console::{Input, Request, Room};
+use host::Host;
 use rooms::INPUT_ROOM;
 
 // Compares the first bytes of two rooms.
@@ -19,20 +20,20 @@ fn compare<'a>(older: &'a Room, n: usize, newer: &'a Room, m: usize) {
 }
 
 // Compares the text of the older module, n bytes of a room, with the one that an argument names.
-fn compare_with(older: &Room, n: usize, i: usize) {
+fn compare_with(rt: &impl Host, older: &Room, n: usize, i: usize) {
     let mut newer = [0u8; INPUT_ROOM];
-    match argument_text::fetch(i, &mut newer) {
-        Input::Failed => {}
+    match argument_text::fetch(rt, i, &mut newer) {
+        Input::Failed(_) => {}
         Input::Text(m) => compare(older, n, &newer, m),
     }
 }
 
 // Compares the modules that two arguments name.
-fn compare_both(i: usize, j: usize) {
+fn compare_both(rt: &impl Host, i: usize, j: usize) {
     let mut older = [0u8; INPUT_ROOM];
-    match argument_text::fetch(i, &mut older) {
-        Input::Failed => {}
-        Input::Text(n) => compare_with(&older, n, j),
+    match argument_text::fetch(rt, i, &mut older) {
+        Input::Failed(_) => {}
+        Input::Text(n) => compare_with(rt, &older, n, j),
     }
 }
 
@@ -44,16 +45,16 @@ fn names_two(end: usize, count: usize) -> bool {
     count == 4
 }
 
-fn main() {
-    let count = os::arg_count();
-    match console::asked(count) {
+fn main(rt: HostRuntime) {
+    let count = host::argument_count(&rt);
+    match console::asked(&rt, count) {
         Request::Help => told::help(),
-        Request::Unknown(i) => told::unknown(i),
+        Request::Unknown(i) => told::unknown(&rt, i),
         Request::Work(end) => {
             let i = if end == 1 { 2 } else { 1 };
             let j = if end <= 2 { 3 } else { 2 };
             if names_two(end, count) {
-                compare_both(i, j)
+                compare_both(&rt, i, j)
             } else {
                 told::usage()
             }

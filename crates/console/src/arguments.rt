@@ -1,6 +1,8 @@
 // The program's arguments: names, options before a `--`, and `--as NAME FILE`, a file that is shown under another name.
 ghost use Rattle.std.specs.Prelude.{◌≤◌};
 
+use std::env::Env;
+
 // What the arguments ask for: the program's work on the names, where the options end before an argument's number; the
 // help; or what is not known, by the argument's number.
 #[derive(Clone, Copy)]
@@ -76,9 +78,9 @@ fn option(word: &[u8; 8], n: usize) -> Word {
 }
 
 // What an argument is.
-fn word_at(i: usize) -> Word {
+fn word_at(rt: &impl Env, i: usize) -> Word {
     let mut word = [0u8; 8];
-    let n = os::arg(i, &mut word);
+    let n = host::argument_or_none(rt, i, &mut word);
     if word[0] != b'-' {
         return Word::Name;
     }
@@ -86,8 +88,8 @@ fn word_at(i: usize) -> Word {
 }
 
 // What an argument asks for.
-fn turn_at(i: usize, count: usize) -> Turn {
-    match word_at(i) {
+fn turn_at(rt: &impl Env, i: usize, count: usize) -> Turn {
+    match word_at(rt, i) {
         Word::Name => Turn::On(0),
         Word::As => {
             if sink::end_of(i, 2, count) < count {
@@ -102,10 +104,10 @@ fn turn_at(i: usize, count: usize) -> Turn {
 }
 
 // What the arguments from one on ask for: the first that is neither a name nor an --as decides.
-pub fn asked_from(first: usize, count: usize) -> Request {
+pub fn asked_from(rt: &impl Env, first: usize, count: usize) -> Request {
     let mut i = first;
     while i < count {
-        match turn_at(i, count) {
+        match turn_at(rt, i, count) {
             Turn::On(more) => {
                 i = sink::end_of(i + 1, more, count);
             }
@@ -118,22 +120,22 @@ pub fn asked_from(first: usize, count: usize) -> Request {
 }
 
 // What all arguments ask for.
-pub fn asked(count: usize) -> Request {
-    asked_from(1, count)
+pub fn asked(rt: &impl Env, count: usize) -> Request {
+    asked_from(rt, 1, count)
 }
 
 // Whether the first argument asks why: --why.
-pub fn asks_why(count: usize) -> bool {
+pub fn asks_why(rt: &impl Env, count: usize) -> bool {
     if count <= 1 {
         return false;
     }
     let mut word = [0u8; 8];
-    let n = os::arg(1, &mut word);
+    let n = host::argument_or_none(rt, 1, &mut word);
     n == 5 && is_why(&word)
 }
 
 // The file that argument i names, alone or with the two behind it; the options end before argument `end`.
-pub fn operand_at(i: usize, end: usize) -> Operand
+pub fn operand_at(rt: &impl Env, i: usize, end: usize) -> Operand
     ensures { result.more ≤ 2 }
 {
     let one = Operand {
@@ -147,7 +149,7 @@ pub fn operand_at(i: usize, end: usize) -> Operand
     if end - i < 3 {
         return one;
     }
-    match word_at(i) {
+    match word_at(rt, i) {
         Word::As => Operand {
             shown: i + 1,
             file: i + 2,

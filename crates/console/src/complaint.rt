@@ -1,24 +1,25 @@
 // What is told on standard error: a line for each name that cannot be read and each module that is not whole.
 ghost use Rattle.sink.specs.Sinks.{Written};
 
-use libc::STDERR_FILENO;
+use host::{Failure, STDERR_FILENO};
 use sink::{Buffer, Sink};
+use std::env::Env;
 
 // Writes the line that waits in a buffer of its own.
 fn write_line(s: Sink, line: &Buffer) {
     io::write_all(STDERR_FILENO, sink::first_bytes(line, s.used));
 }
 
-// Writes the name that waits in a buffer of its own, and why the last call failed.
-fn write_reason(s: Sink, line: &Buffer) {
-    os::fail(sink::first_bytes(line, s.used))
+// Writes the name that waits in a buffer of its own, and why a call failed.
+fn write_reason(s: Sink, line: &Buffer, why: Failure) {
+    host::tell_failure(sink::first_bytes(line, s.used), why)
 }
 
-// A name, and why the last call failed.
-pub fn tell_reason(name: &[u8]) {
+// A name, and why a call failed.
+pub fn tell_reason(name: &[u8], why: Failure) {
     let mut line = io::large_buffer();
     let s = texts::name(sink::new(), &mut line, name);
-    write_reason(s, &line)
+    write_reason(s, &line, why)
 }
 
 // A name, and where the reading of its module stopped.
@@ -61,13 +62,13 @@ pub fn tell(s: Sink, out: &Buffer, name: &[u8], words: &[u8]) -> Sink
     t
 }
 
-// Tells why the last call failed, behind what was listed before.
-pub fn complain(s: Sink, out: &Buffer, name: &[u8]) -> Sink
+// Tells why a call failed, behind what was listed before.
+pub fn complain(s: Sink, out: &Buffer, name: &[u8], why: Failure) -> Sink
     ensures { Written s result }
 {
     let t = sink::flush(s, out);
     if !t.broken {
-        tell_reason(name);
+        tell_reason(name, why);
     }
     t
 }
@@ -103,9 +104,9 @@ fn write_option(word: &[u8], n: usize) {
 
 // Tells of an option that is not known, by the argument's number. Of one that is longer than 64 bytes it tells how it
 // begins.
-pub fn tell_option(i: usize) {
+pub fn tell_option(rt: &impl Env, i: usize) {
     let mut word = [0u8; 66];
-    let n = os::arg(i, &mut word);
+    let n = host::argument_or_none(rt, i, &mut word);
     option_of(&mut word, n);
     io::write_all(STDERR_FILENO, b": unknown option\n");
 }

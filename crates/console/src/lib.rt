@@ -1,4 +1,4 @@
-// What every program shares: a text out of a descriptor, arguments, and complaints on standard error.
+// What every program shares: a text out of a reader, arguments, and complaints on standard error.
 #![tactic(auto)]
 
 mod arguments;

@@ -5,6 +5,7 @@ mod module;
 mod told;
 
 use console::{Input, Request, Room};
+use host::Host;
 use rooms::INPUT_ROOM;
 
 // Converts the module in the first n bytes of the room.
@@ -13,10 +14,10 @@ fn convert_first(room: &Room, n: usize) {
 }
 
 // Converts the module on standard input.
-fn convert_standard() {
+fn convert_standard(rt: &impl Host) {
     let mut room = [0u8; INPUT_ROOM];
-    match console::fill(libc::STDIN_FILENO, &mut room) {
-        Input::Failed => console::tell_reason(b"-"),
+    match console::fill(&mut rt.reader(), &mut room) {
+        Input::Failed(why) => console::tell_reason(b"-", why),
         Input::Text(n) => convert_first(&room, n),
     }
 }
@@ -29,14 +30,14 @@ fn names_none(end: usize, count: usize) -> bool {
     count == 2
 }
 
-fn main() {
-    let count = os::arg_count();
-    match console::asked(count) {
+fn main(rt: HostRuntime) {
+    let count = host::argument_count(&rt);
+    match console::asked(&rt, count) {
         Request::Help => told::help(),
-        Request::Unknown(i) => told::unknown(i),
+        Request::Unknown(i) => told::unknown(&rt, i),
         Request::Work(end) => {
             if names_none(end, count) {
-                convert_standard()
+                convert_standard(&rt)
             } else {
                 told::usage()
             }

@@ -19,8 +19,8 @@ fn tell_stop(place: usize, reason: u8) {
 
 // Writes the text; that it cannot be written is told.
 fn write_text(text: &[u8]) {
-    if !io::write_all(libc::STDOUT_FILENO, text) {
-        console::tell_reason(b"standard output");
+    if !io::write_all(host::STDOUT_FILENO, text) {
+        console::tell_reason(b"standard output", host::last_failure());
     }
 }
 

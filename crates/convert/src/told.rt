@@ -1,5 +1,6 @@
 // The use and the help.
-use libc::{STDERR_FILENO, STDOUT_FILENO};
+use host::{STDERR_FILENO, STDOUT_FILENO};
+use std::env::Env;
 
 // How the program is called.
 pub(crate) fn usage() {
@@ -10,8 +11,8 @@ pub(crate) fn usage() {
 }
 
 // Tells of an option that is not known, and how the program is called.
-pub(crate) fn unknown(i: usize) {
-    console::tell_option(i);
+pub(crate) fn unknown(rt: &impl Env, i: usize) {
+    console::tell_option(rt, i);
     usage()
 }
 

@@ -6,8 +6,10 @@ mod source;
 mod told;
 
 use console::Request;
+use host::Host;
 use numbers::Num;
 use position_lines::Asked;
+use std::env::Env;
 
 // A number that an argument gives: the whole word in a radix, or none.
 #[derive(Clone, Copy)]
@@ -29,33 +31,32 @@ fn of_word(word: &[u8], radix: u8) -> Given {
 }
 
 // What the i-th argument gives.
-fn number_at(i: usize, radix: u8) -> Given {
+fn number_at(rt: &impl Env, i: usize, radix: u8) -> Given {
     let mut word = io::buffer();
-    let n = os::arg(i, &mut word);
-    if os::errno() != 0 {
-        return Given::None;
+    match host::argument(rt, i, &mut word) {
+        Ok(n) => of_word(sink::first_bytes(&word, n), radix),
+        Err(_) => Given::None,
     }
-    of_word(sink::first_bytes(&word, n), radix)
 }
 
 // Whether the first argument asks for the lines.
-fn asks_lines(count: usize) -> bool {
+fn asks_lines(rt: &impl Env, count: usize) -> bool {
     if count <= 1 {
         return false;
     }
     let mut word = [0u8; 8];
-    let n = os::arg(1, &mut word);
+    let n = host::argument_or_none(rt, 1, &mut word);
     n == 7 && word[0] == b'-' && word[1] == b'-' && word[2] == b'l' && word[3] == b'i'
 }
 
 // Explains what the arguments from one on give: an area's id, decimal, and a position in it, hex, as the listing has them; then perhaps a file.
-fn explain_given(first: usize, count: usize, lines: bool) {
-    let id = number_at(first, 10);
+fn explain_given(rt: &impl Host, first: usize, count: usize, lines: bool) {
+    let id = number_at(rt, first, 10);
     let Given::Number(i) = id else {
         told::usage();
         return;
     };
-    let position = number_at(sink::end_of(first, 1, count), 16);
+    let position = number_at(rt, sink::end_of(first, 1, count), 16);
     let Given::Number(p) = position else {
         told::usage();
         return;
@@ -65,11 +66,11 @@ fn explain_given(first: usize, count: usize, lines: bool) {
         position: p,
         lines: lines,
     };
-    source::explain_argument(asked, sink::end_of(first, 2, count), count)
+    source::explain_argument(rt, asked, sink::end_of(first, 2, count), count)
 }
 
 // The same, where there are two or three of them.
-fn explain_from(first: usize, count: usize, lines: bool) {
+fn explain_from(rt: &impl Host, first: usize, count: usize, lines: bool) {
     if count <= sink::end_of(first, 1, usize::MAX) {
         told::usage();
         return;
@@ -78,16 +79,16 @@ fn explain_from(first: usize, count: usize, lines: bool) {
         told::usage();
         return;
     }
-    explain_given(first, count, lines)
+    explain_given(rt, first, count, lines)
 }
 
-fn main() {
-    let count = os::arg_count();
-    let lines = asks_lines(count);
+fn main(rt: HostRuntime) {
+    let count = host::argument_count(&rt);
+    let lines = asks_lines(&rt, count);
     let first = if lines { 2 } else { 1 };
-    match console::asked_from(first, count) {
+    match console::asked_from(&rt, first, count) {
         Request::Help => told::help(),
-        Request::Unknown(i) => told::unknown(i),
-        Request::Work(_) => explain_from(first, count, lines),
+        Request::Unknown(i) => told::unknown(&rt, i),
+        Request::Work(_) => explain_from(&rt, first, count, lines),
     }
 }

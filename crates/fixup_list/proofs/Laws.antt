@@ -4,6 +4,7 @@ use Prim.Native.Nat.{ℕ, zero, suc, ◌+◌, ◌<◌, ◌≤◌}
 use native.Mathlib.Nat.{zero-add, add-suc, suc-add, not-suc-le-zero, le_of_suc-le-suc}
 use mathlib.Core.Path.{◌≡◌, refl, sym, ◌∙◌, ap}
 use mathlib.Core.List.{List, [], ◌∷◌, map}
+use native.Mathlib.Omega.{arith}
 use lib.ListN.{length, set}
 use Rattle.format.specs.Fixups as the
 use Rattle.laws.specs.Rows.{from, fixup_row, fixups_in}
@@ -34,3 +35,20 @@ unfolding finished
 finished-all rows i k [] l = refl
 finished-all rows zero k (y ∷ ys) l = absurd (not-suc-le-zero l)
 finished-all rows (suc i) k (y ∷ ys) l = ap (λ (fs : List the.Fixup). told_fixup y ∷ fs) (finished-all rows i (suc k) ys (le_of_suc-le-suc l))
+
+-- none is put in yet
+pub finished-start : (rows : List ℕ) (ys : List Fixup) → finished rows 0 0 ys ≡ fixups_in rows (length ys)
+unfolding fixups_in
+finished-start rows ys = finished-none rows 0 ys
+
+-- one more is put in
+pub finished-next : (rows : List ℕ) (i n : ℕ) (ys : List Fixup) (y : Fixup) → i < length ys → told_fixup y ≡ fixup_row rows i → finished rows i 0 ys ≡ fixups_in rows n
+    → finished rows (i + 1) 0 (set ys i y) ≡ fixups_in rows n
+finished-next rows i n ys y l e h =
+    let s : i + 1 ≡ suc i = omega arith in
+    let z : i ≡ i + 0 = omega arith in
+    ap (λ (j : ℕ). finished rows j 0 (set ys i y)) s ∙ (finished-more rows i 0 ys y l (e ∙ ap (fixup_row rows) z) ∙ h)
+
+-- all are put in
+pub finished-end : (rows : List ℕ) (i n : ℕ) (ys : List Fixup) → length ys ≤ i → finished rows i 0 ys ≡ fixups_in rows n → map told_fixup ys ≡ fixups_in rows n
+finished-end rows i n ys l h = sym (finished-all rows i 0 ys l) ∙ h

@@ -126,7 +126,7 @@ module _ (fm : Form) (t : Tables) (ch : Chosen) (place id : ℕ) (c : Content) (
           stays i _ (ap (λ (cs : List Cell). cell_at cs i) (cells-content fm t ch place id c r q) ∙ f)
           ∙ laid-here fm t ch place id c r q image i j e l b (omega (arith, ends-inside t.areas r.area))
 
-  row-stands : (x : Fixup) → Row fm ch id c.address c.bytes (laidContent fm t ch place c r) x → Stands fm t ch laid x
+  row-stands : (x : Fixup) → Row fm ch id c.address c.bytes (laid_content fm t ch place c r) x → Stands fm t ch laid x
   row-stands x w = record {
     area = r.area;
     rank_is = ek ∙ ap (λ (n : ℕ). some n) (sym w.home-is);
@@ -138,46 +138,46 @@ module _ (fm : Form) (t : Tables) (ch : Chosen) (place id : ℕ) (c : Content) (
     bytes = λ h.
         let v = wrap_add (referred ch x.refers) x.number in
         let e = ends-inside t.areas r.area in
-        part-is x.size (offset t.areas r.area + x.position) laid (inBytes fm.big x.size v) (length-bytes fm.big x.size v) (omega (arith))
+        part-is x.size (offset t.areas r.area + x.position) laid (in_bytes fm.big x.size v) (length-bytes fm.big x.size v) (omega (arith))
         (λ k l.
         row-byte (offset t.areas r.area + x.position + k) (w.at + k) (omega (arith, w.position-is)) (omega (arith, w.ends, w.size_is)) (omega (arith, w.position-is))
-        ∙ (w.bytes k (omega (arith, w.size_is)) ∙ ap (λ (n : ℕ). get_or (inBytes fm.big n v) k 0) (sym w.size_is)));
+        ∙ (w.bytes k (omega (arith, w.size_is)) ∙ ap (λ (n : ℕ). get_or (in_bytes fm.big n v) k 0) (sym w.size_is)));
   }
 
 module _ (fm : Form) (t : Tables) (ch : Chosen) where
-  in-stand : (place : ℕ) (c : Content) (r : Relocation) (o : Option ℕ) (s u : State) (image laid : List ℕ) → rank 0 t.areas r.area ≡ o → fitFragments fm r.fragments ≡ true
+  in-stand : (place : ℕ) (c : Content) (r : Relocation) (o : Option ℕ) (s u : State) (image laid : List ℕ) → rank 0 t.areas r.area ≡ o → fit_fragments fm r.fragments ≡ true
       → place_in fm t place c r s o ≡ fine u → Each Byte c.bytes × Each ShortMode r.fragments → length image ≡ total t.areas → length laid ≡ total t.areas
-      → ((i : ℕ) (d : Cell) → cell_at (cells_in fm t place c r o) i ≡ some d → get_or laid i 0 ≡ get_or (laidIn fm t ch place c r image o) i 0)
-      → Each (Stands fm t ch laid) (rowsIn fm t place c r o)
+      → ((i : ℕ) (d : Cell) → cell_at (cells_in fm t place c r o) i ≡ some d → get_or laid i 0 ≡ get_or (laid_in fm t ch place c r image o) i 0)
+      → Each (Stands fm t ch laid) (rows_in fm t place c r o)
   in-stand place c r none s u image laid eo h e sm li ll f = tt
   in-stand place c r (some id) s u image laid eo h e sm li ll f =
       let q = placed-ready fm t ch place id c r s u h e in
-      each_map (Row fm ch id c.address c.bytes (laidContent fm t ch place c r)) (Stands fm t ch laid) (rowsIn fm t place c r (some id))
+      each_map (Row fm ch id c.address c.bytes (laid_content fm t ch place c r)) (Stands fm t ch laid) (rows_in fm t place c r (some id))
       (row-stands fm t ch place id c r eo q image laid li ll f) (pair-rows fm t ch place id c r q sm.0 sm.1)
 
-  body-stand : (place : ℕ) (b : Pair) (s u : State) (image laid : List ℕ) → fitBy fm b ≡ true → placeBody fm t place s b ≡ fine u → SmallPair b → length image ≡ total t.areas
-      → length laid ≡ total t.areas → ((i : ℕ) (d : Cell) → cell_at (cellsBy fm t place b) i ≡ some d → get_or laid i 0 ≡ get_or (laidBy fm t ch place image b) i 0)
-      → Each (Stands fm t ch laid) (pairRows fm t place b)
+  body-stand : (place : ℕ) (b : Pair) (s u : State) (image laid : List ℕ) → fit_by fm b ≡ true → place_body fm t place s b ≡ fine u → SmallPair b → length image ≡ total t.areas
+      → length laid ≡ total t.areas → ((i : ℕ) (d : Cell) → cell_at (cells_by fm t place b) i ≡ some d → get_or laid i 0 ≡ get_or (laid_by fm t ch place image b) i 0)
+      → Each (Stands fm t ch laid) (pair_rows fm t place b)
   body-stand place skipped s u image laid h e sm li ll f = tt
   body-stand place (placed c r) s u image laid h e sm li ll f = in-stand place c r (rank 0 t.areas r.area) s u image laid refl h e sm li ll f
 
-  all-stand : (ps : List (Taken Pair)) (s u : State) (image : List ℕ) → fit fm t ps ≡ true → fold (placePair fm t) s ps ≡ fine u → SmallPairs ps → length image ≡ total t.areas
-      → Each (Stands fm t ch (laidPairs fm t ch ps image)) (all_rows fm t ps)
-  unfolding fit fold laidPairs all_rows placePair writes
+  all-stand : (ps : List (Taken Pair)) (s u : State) (image : List ℕ) → fit fm t ps ≡ true → fold (place_pair fm t) s ps ≡ fine u → SmallPairs ps → length image ≡ total t.areas
+      → Each (Stands fm t ch (laid_pairs fm t ch ps image)) (all_rows fm t ps)
+  unfolding fit fold laid_pairs all_rows place_pair writes
   all-stand [] s u image h e sm li = tt
   all-stand (p ∷ ps) s u image h e sm li =
-      let k = chain (placePair fm t s p) (λ x. fold (placePair fm t) x ps) u e in
-      let b = both_true (fitBy fm p.body) (missesAll fm t p ps && fit fm t ps) h in
-      let d = both_true (missesAll fm t p ps) (fit fm t ps) b.1 in
-      let next = laidBy fm t ch p.place image p.body in
+      let k = chain (place_pair fm t s p) (λ x. fold (place_pair fm t) x ps) u e in
+      let b = both_true (fit_by fm p.body) (misses_all fm t p ps && fit fm t ps) h in
+      let d = both_true (misses_all fm t p ps) (fit fm t ps) b.1 in
+      let next = laid_by fm t ch p.place image p.body in
       let ln = body-length fm t ch p.place image p.body ∙ li in
-      each_append (Stands fm t ch (laidPairs fm t ch ps next)) (pairRows fm t p.place p.body) (all_rows fm t ps)
-      (body-stand p.place p.body s k.value image (laidPairs fm t ch ps next) b.0 k.first sm.0 li (pairs-length fm t ch ps next ∙ ln)
+      each_append (Stands fm t ch (laid_pairs fm t ch ps next)) (pair_rows fm t p.place p.body) (all_rows fm t ps)
+      (body-stand p.place p.body s k.value image (laid_pairs fm t ch ps next) b.0 k.first sm.0 li (pairs-length fm t ch ps next ∙ ln)
       (λ i x w. pairs-kept fm t ch p i x w ps k.value u next d.0 d.1 k.second))
       (all-stand ps k.value u next d.1 k.second sm.1 ln)
 
-  pub fixups-stand : (ps : List (Taken Pair)) (s : State) → fit fm t ps ≡ true → placing fm t ps ≡ fine s → SmallPairs ps → Each (Stands fm t ch (laidBytes fm t ch ps)) s.fixups
-  unfolding placing laidBytes
+  pub fixups-stand : (ps : List (Taken Pair)) (s : State) → fit fm t ps ≡ true → placing fm t ps ≡ fine s → SmallPairs ps → Each (Stands fm t ch (laid_bytes fm t ch ps)) s.fixups
+  unfolding placing laid_bytes
   fixups-stand ps s h e sm =
       let n = total t.areas in
       rw (placing-rows fm t ps s e) (all-stand ps _ s (replicate n 0) h e sm (length-replicate {A = ℕ} n 0))
@@ -216,16 +216,16 @@ rank-one k (a ∷ areas) (suc i) (suc j) m e f = ap suc (rank-one (k + pick (kep
 -- ------------------------------------------------------------------ the target
 
 stands-reaches : (fm : Form) (t : Tables) (ch : Chosen) (laid : List ℕ) (x : Fixup) (a : ℕ) → Stands fm t ch laid x → rank 0 t.areas a ≡ some x.home
-    → x.position + x.size ≤ extent t.areas a → referred ch x.refers / 2 ^ closing (class_of x.mode) ≡ ownAddress ch x / 2 ^ closing (class_of x.mode)
-    → corrected fm.big x.mode x.number (take x.size (drop (offset t.areas a + x.position) laid)) (ownAddress ch x) ≡ fine (referred ch x.refers)
+    → x.position + x.size ≤ extent t.areas a → referred ch x.refers / 2 ^ closing (class_of x.mode) ≡ own_address ch x / 2 ^ closing (class_of x.mode)
+    → corrected fm.big x.mode x.number (take x.size (drop (offset t.areas a + x.position) laid)) (own_address ch x) ≡ fine (referred ch x.refers)
 stands-reaches fm t ch laid x a w ea h e =
     let same : w.area ≡ a = rank-one 0 t.areas w.area a x.home w.rank_is ea in
-    let own = ownAddress ch x in
+    let own = own_address ch x in
     let v = wrap_add (referred ch x.refers) x.number in
-    let bytes : take x.size (drop (offset t.areas a + x.position) laid) ≡ inBytes fm.big x.size v =
-    subst (λ (n : ℕ). take x.size (drop (offset t.areas n + x.position) laid) ≡ inBytes fm.big x.size v) same
+    let bytes : take x.size (drop (offset t.areas a + x.position) laid) ≡ in_bytes fm.big x.size v =
+    subst (λ (n : ℕ). take x.size (drop (offset t.areas n + x.position) laid) ≡ in_bytes fm.big x.size v) same
     (w.bytes (subst (λ (n : ℕ). x.position + x.size ≤ extent t.areas n) (sym same) h)) in
-    ap (λ (bs : List ℕ). corrected fm.big x.mode x.number bs own) (bytes ∙ ap (λ (n : ℕ). inBytes fm.big n v) w.size_is)
+    ap (λ (bs : List ℕ). corrected fm.big x.mode x.number bs own) (bytes ∙ ap (λ (n : ℕ). in_bytes fm.big n v) w.size_is)
     ∙ back fm.big x.mode x.number (referred ch x.refers) own w.mode_small w.number_small w.is_whole w.plain e
 
 pub each_member : {A : Type 0} (P : A → Type 0) {x : A} {xs : List A} → Memᴰ x xs → Each P xs → P x

@@ -1,6 +1,6 @@
 // Lists object modules by the ended reading.
 #![tactic(auto)]
 
-fn main() {
-    listing::run(true)
+fn main(rt: HostRuntime) {
+    listing::run(&rt, true)
 }

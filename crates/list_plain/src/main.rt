@@ -1,6 +1,6 @@
 // Lists object modules by the plain reading.
 #![tactic(auto)]
 
-fn main() {
-    listing::run(false)
+fn main(rt: HostRuntime) {
+    listing::run(&rt, false)
 }

@@ -2,39 +2,46 @@
 use crate::how::How;
 use crate::{help, source};
 use console::{Operand, Request};
+use host::{Failure, Host};
 use sink::{Buffer, Sink};
 
 // Tells of a name that no file can have: how it begins, and why.
-fn too_long(s: Sink, out: &Buffer, name: &mut [u8]) -> Sink {
+fn too_long(s: Sink, out: &Buffer, name: &mut [u8], why: Failure) -> Sink {
     cells::copy_bytes(name, 60, b"..", 2);
-    console::complain(s, out, sink::first_bytes(name, 62))
+    console::complain(s, out, sink::first_bytes(name, 62), why)
 }
 
 // Lists a file under the name that an argument gives.
-fn list_shown(how: How, s: Sink, out: &mut Buffer, file: &[u8], shown: usize) -> Sink {
+fn list_shown(
+    rt: &impl Host,
+    how: How,
+    s: Sink,
+    out: &mut Buffer,
+    file: &[u8],
+    shown: usize,
+) -> Sink {
     let mut name = io::buffer();
-    let n = os::arg(shown, &mut name);
-    if os::errno() != 0 {
-        return too_long(s, out, &mut name);
+    match host::argument(rt, shown, &mut name) {
+        Ok(n) => source::list_file(rt, how, s, out, file, sink::first_bytes(&name, n)),
+        Err(why) => too_long(s, out, &mut name, why),
     }
-    source::list_file(how, s, out, file, &name[..n])
 }
 
 // Lists the file that an argument names, under its own or another argument's name.
-fn list_operand(how: How, s: Sink, out: &mut Buffer, operand: Operand) -> Sink {
+fn list_operand(rt: &impl Host, how: How, s: Sink, out: &mut Buffer, operand: Operand) -> Sink {
     if s.broken {
         return s;
     }
     let mut file = io::buffer();
-    let n = os::arg(operand.file, &mut file);
-    if os::errno() != 0 {
-        return too_long(s, out, &mut file);
+    match host::argument(rt, operand.file, &mut file) {
+        Ok(n) => list_shown(rt, how, s, out, sink::first_bytes(&file, n), operand.shown),
+        Err(why) => too_long(s, out, &mut file, why),
     }
-    list_shown(how, s, out, &file[..n], operand.shown)
 }
 
 // Lists what an argument names; the one at which the options end names nothing.
 fn list_argument(
+    rt: &impl Host,
     how: How,
     s: Sink,
     out: &mut Buffer,
@@ -45,11 +52,12 @@ fn list_argument(
     if i == end {
         return s;
     }
-    list_operand(how, s, out, operand)
+    list_operand(rt, how, s, out, operand)
 }
 
 // Lists the files that the arguments from one on name, one after the other.
 fn list_arguments(
+    rt: &impl Host,
     how: How,
     s: Sink,
     out: &mut Buffer,
@@ -60,8 +68,8 @@ fn list_arguments(
     let mut now = s;
     let mut i = first;
     while i < count {
-        let operand = console::operand_at(i, end);
-        now = list_argument(how, now, out, operand, i, end);
+        let operand = console::operand_at(rt, i, end);
+        now = list_argument(rt, how, now, out, operand, i, end);
         i = sink::end_of(i + 1, operand.more, count);
     }
     now
@@ -76,19 +84,27 @@ fn names_nothing(first: usize, end: usize, count: usize) -> bool {
 }
 
 // Lists by the arguments, or standard input where they name nothing.
-fn list(how: How, s: Sink, out: &mut Buffer, first: usize, end: usize, count: usize) -> Sink {
+fn list(
+    rt: &impl Host,
+    how: How,
+    s: Sink,
+    out: &mut Buffer,
+    first: usize,
+    end: usize,
+    count: usize,
+) -> Sink {
     if names_nothing(first, end, count) {
-        return source::list_standard(how, s, out);
+        return source::list_standard(rt, how, s, out);
     }
-    list_arguments(how, s, out, first, end, count)
+    list_arguments(rt, how, s, out, first, end, count)
 }
 
 // Does what the arguments from one on ask for, and writes what still waits then.
-fn answered(how: How, out: &mut Buffer, first: usize, count: usize) {
-    match console::asked_from(first, count) {
-        Request::Work(end) => written(list(how, sink::new(), out, first, end, count), out),
+fn answered(rt: &impl Host, how: How, out: &mut Buffer, first: usize, count: usize) {
+    match console::asked_from(rt, first, count) {
+        Request::Work(end) => written(list(rt, how, sink::new(), out, first, end, count), out),
         Request::Help => help::help(how.ended),
-        Request::Unknown(i) => help::tell_unknown(how.ended, i),
+        Request::Unknown(i) => help::tell_unknown(rt, how.ended, i),
     }
 }
 
@@ -98,17 +114,17 @@ fn written(s: Sink, out: &Buffer) {
 }
 
 // The whole program. Only the ended reading knows why it stopped.
-pub(crate) fn run(ended: bool) {
+pub(crate) fn run(rt: &impl Host, ended: bool) {
     let mut out = io::large_buffer();
-    let count = os::arg_count();
-    let why = ended && console::asks_why(count);
+    let count = host::argument_count(rt);
+    let why = ended && console::asks_why(rt, count);
     let how = How {
         ended: ended,
         why: why,
     };
     if why {
-        answered(how, &mut out, 2, count)
+        answered(rt, how, &mut out, 2, count)
     } else {
-        answered(how, &mut out, 1, count)
+        answered(rt, how, &mut out, 1, count)
     }
 }

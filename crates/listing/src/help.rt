@@ -1,5 +1,6 @@
 // What --help prints, and what an option prints that is not known.
-use libc::{STDERR_FILENO, STDOUT_FILENO};
+use host::{STDERR_FILENO, STDOUT_FILENO};
+use std::env::Env;
 
 // How the program is called, and which reading it is.
 fn usage(ended: bool) -> bool {
@@ -72,12 +73,12 @@ pub(crate) fn help(ended: bool) {
     if usage(ended) && lines() && refusals() {
         return;
     }
-    os::fail(b"standard output")
+    host::tell_failure(b"standard output", host::last_failure())
 }
 
 // Tells of an option that is not known, and how the program is called.
-pub(crate) fn tell_unknown(ended: bool, i: usize) {
-    console::tell_option(i);
+pub(crate) fn tell_unknown(rt: &impl Env, ended: bool, i: usize) {
+    console::tell_option(rt, i);
     if ended {
         io::write_all(
             STDERR_FILENO,

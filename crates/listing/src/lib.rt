@@ -8,8 +8,10 @@ mod how;
 mod module;
 mod source;
 
+use host::Host;
+
 // Lists the modules that the arguments name, or the one on standard input where there are none, by
 // the ended or the plain reading.
-pub fn run(ended: bool) {
-    arguments::run(ended)
+pub fn run(rt: &impl Host, ended: bool) {
+    arguments::run(rt, ended)
 }

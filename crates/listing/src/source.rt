@@ -2,8 +2,10 @@
 use crate::how::How;
 use crate::module;
 use console::{Input, Room};
+use host::{Failure, Host};
 use rooms::INPUT_ROOM;
 use sink::{Buffer, Sink};
+use std::io::Read;
 
 // Lists the first n bytes of the room.
 fn list_first(how: How, s: Sink, out: &mut Buffer, room: &Room, n: usize, name: &[u8]) -> Sink {
@@ -19,11 +21,18 @@ fn title(s: Sink, out: &mut Buffer, name: &[u8], titled: bool) -> Sink {
     s
 }
 
-// Lists the text that a descriptor gives.
-fn list_input(how: How, s: Sink, out: &mut Buffer, fd: i32, name: &[u8], titled: bool) -> Sink {
+// Lists the text that a reader gives.
+fn list_input(
+    reader: &mut impl Read,
+    how: How,
+    s: Sink,
+    out: &mut Buffer,
+    name: &[u8],
+    titled: bool,
+) -> Sink {
     let mut room = [0u8; INPUT_ROOM];
-    match console::fill(fd, &mut room) {
-        Input::Failed => console::complain(s, out, name),
+    match console::fill(reader, &mut room) {
+        Input::Failed(why) => console::complain(s, out, name, why),
         Input::Text(n) => {
             let t = title(s, out, name, titled);
             list_first(how, t, out, &room, n, name)
@@ -32,8 +41,8 @@ fn list_input(how: How, s: Sink, out: &mut Buffer, fd: i32, name: &[u8], titled:
 }
 
 // Lists the module on standard input.
-pub(crate) fn list_standard(how: How, s: Sink, out: &mut Buffer) -> Sink {
-    list_input(how, s, out, libc::STDIN_FILENO, b"-", false)
+pub(crate) fn list_standard(rt: &impl Host, how: How, s: Sink, out: &mut Buffer) -> Sink {
+    list_input(&mut rt.reader(), how, s, out, b"-", false)
 }
 
 // Whether a file's name stands for standard input.
@@ -42,23 +51,27 @@ fn is_standard(file: &[u8]) -> bool {
 }
 
 // Tells why a file cannot be opened.
-fn unopened(s: Sink, out: &Buffer, name: &[u8]) -> Sink {
+fn unopened(s: Sink, out: &Buffer, name: &[u8], why: Failure) -> Sink {
     if name.len() == 0 {
-        return console::complain(s, out, b"(empty name)");
+        return console::complain(s, out, b"(empty name)", why);
     }
-    console::complain(s, out, name)
+    console::complain(s, out, name, why)
 }
 
 // Lists the module of a file under a line with a name.
-pub(crate) fn list_file(how: How, s: Sink, out: &mut Buffer, file: &[u8], name: &[u8]) -> Sink {
+pub(crate) fn list_file(
+    rt: &impl Host,
+    how: How,
+    s: Sink,
+    out: &mut Buffer,
+    file: &[u8],
+    name: &[u8],
+) -> Sink {
     if is_standard(file) {
-        return list_input(how, s, out, libc::STDIN_FILENO, name, true);
+        return list_input(&mut rt.reader(), how, s, out, name, true);
     }
-    let fd = os::open_read(file);
-    if fd < 0 {
-        return unopened(s, out, name);
+    match host::open(rt, file) {
+        Ok(mut opened) => list_input(&mut opened, how, s, out, name, true),
+        Err(why) => unopened(s, out, name, why),
     }
-    let t = list_input(how, s, out, fd, name, true);
-    libc::close(fd);
-    t
 }

@@ -7,7 +7,10 @@ mod told;
 
 use book_open::Opened;
 use bulk::Input;
+use host::Host;
 use sink::Buffer;
+use std::env::Env;
+use std::io::Read;
 
 // One byte more than the longest book that is read.
 const ROOM: usize = 2097153;
@@ -16,41 +19,39 @@ const ROOM: usize = 2097153;
 type Room = [u8; ROOM];
 
 // Tells the pattern of the name that an argument gives.
-fn look(out: &mut Buffer, book: &[u8], i: usize) {
+fn look(rt: &impl Env, out: &mut Buffer, book: &[u8], i: usize) {
     let mut name = io::large_buffer();
-    let n = os::arg(i, &mut name);
-    if os::errno() != 0 {
-        console::tell_reason(b"the name");
-        return;
+    match host::argument(rt, i, &mut name) {
+        Ok(n) => pattern::tell(out, book, sink::first_bytes(&name, n)),
+        Err(why) => console::tell_reason(b"the name", why),
     }
-    pattern::tell(out, book, sink::first_bytes(&name, n))
 }
 
 // Tells what is asked for of a book that is opened.
-fn answer(out: &mut Buffer, book: &[u8], count: usize) {
+fn answer(rt: &impl Env, out: &mut Buffer, book: &[u8], count: usize) {
     match book_open::open_book(book) {
         Opened::Refused { number, place } => told::refused(out, number as usize, place),
         Opened::Book { entries } => {
             if count < 3 {
                 contents::tell(out, book, entries)
             } else {
-                look(out, book, 2)
+                look(rt, out, book, 2)
             }
         }
     }
 }
 
-// The book that a descriptor gives.
-fn read(room: &mut Room, fd: i32, file: &[u8], count: usize) {
+// The book that a reader gives.
+fn read(rt: &impl Env, room: &mut Room, reader: &mut impl Read, file: &[u8], count: usize) {
     let mut out = io::large_buffer();
-    match bulk::fill(fd, room) {
-        Input::Failed => console::tell_reason(file),
+    match bulk::fill(reader, room) {
+        Input::Failed(why) => console::tell_reason(file, why),
         Input::Text(n) => {
             if ROOM <= n {
                 console::tell_words(file, b"longer than 2097152 bytes");
                 return;
             }
-            answer(&mut out, sink::first_bytes(room, n), count)
+            answer(rt, &mut out, sink::first_bytes(room, n), count)
         }
     }
 }
@@ -61,42 +62,41 @@ fn empty_room() -> Room {
 }
 
 // The book of this name; - is standard input.
-fn open(file: &[u8], count: usize) {
+fn open(rt: &impl Host, file: &[u8], count: usize) {
     let mut room = empty_room();
     if file.len() == 1 && cells::byte_at(file, 0) == b'-' {
-        read(&mut room, libc::STDIN_FILENO, file, count);
+        read(rt, &mut room, &mut rt.reader(), file, count);
         return;
     }
-    let fd = os::open_read(file);
-    if fd < 0 {
-        console::tell_reason(file);
-        return;
+    match host::open(rt, file) {
+        Ok(mut opened) => read(rt, &mut room, &mut opened, file, count),
+        Err(why) => console::tell_reason(file, why),
     }
-    read(&mut room, fd, file, count);
-    libc::close(fd);
 }
 
 // The first argument: help, or the book's name.
-fn first(count: usize) {
+fn first(rt: &impl Host, count: usize) {
     let mut file = io::buffer();
-    let n = os::arg(1, &mut file);
-    if os::errno() != 0 {
-        console::tell_reason(b"the book");
-        return;
+    match host::argument(rt, 1, &mut file) {
+        Ok(n) => named(rt, sink::first_bytes(&file, n), count),
+        Err(why) => console::tell_reason(b"the book", why),
     }
-    let word = sink::first_bytes(&file, n);
+}
+
+// The first argument's word: help, or the book's name.
+fn named(rt: &impl Host, word: &[u8], count: usize) {
     if help_word::asks_help(word) {
         told::help();
         return;
     }
-    open(word, count)
+    open(rt, word, count)
 }
 
-fn main() {
-    let count = os::arg_count();
+fn main(rt: HostRuntime) {
+    let count = host::argument_count(&rt);
     if count < 2 || 3 < count {
         console::tell_words(b"usage", b"lookup BOOK [NAME]");
         return;
     }
-    first(count)
+    first(&rt, count)
 }

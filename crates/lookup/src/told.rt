@@ -1,5 +1,5 @@
 // What is told beside a pattern: refusals, complaints, the use.
-use libc::{STDERR_FILENO, STDOUT_FILENO};
+use host::{STDERR_FILENO, STDOUT_FILENO};
 use sink::Buffer;
 
 // A refusal, on standard output and on standard error.

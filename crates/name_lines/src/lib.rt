@@ -1,8 +1,9 @@
-// The lines of standard input, one after the other, through two lent rooms. No more than they hold is kept, however long the input is.
+// The lines of a reader, one after the other, through two lent rooms. No more than they hold is kept, however long the input is.
 #![tactic(auto)]
 
 use bulk::Input;
-use libc::STDIN_FILENO;
+use host::Failure;
+use std::io::Read;
 
 // What was read and is not yet taken.
 pub type Block = [u8; 65536];
@@ -17,14 +18,14 @@ pub struct Cursor {
     pub end: usize,
 }
 
-// A line of so many bytes, at most 4,095; one that is longer, of which the first 4,096 are there; an empty one; the end; or an error, which errno tells.
+// A line of so many bytes, at most 4,095; one that is longer, of which the first 4,096 are there; an empty one; the end; or an error.
 #[derive(Clone, Copy)]
 pub enum Line {
     Name { length: usize, next: Cursor },
     Long { next: Cursor },
     Empty { next: Cursor },
     End,
-    Failed,
+    Failed(Failure),
 }
 
 // A byte, the end, or an error.
@@ -32,7 +33,7 @@ pub enum Line {
 enum Step {
     Byte { value: u8, next: Cursor },
     End,
-    Failed,
+    Failed(Failure),
 }
 
 // Nothing is read yet.
@@ -52,14 +53,14 @@ fn taken(block: &[u8], at: usize, end: usize) -> Step {
 }
 
 // The next byte; the block is filled again where none is left in it.
-fn next_byte(block: &mut [u8], c: Cursor) -> Step {
+fn next_byte(reader: &mut impl Read, block: &mut [u8], c: Cursor) -> Step {
     let at = c.at;
     let end = c.end;
     if at < end {
         return taken(block, at, end);
     }
-    match bulk::fill(STDIN_FILENO, block) {
-        Input::Failed => Step::Failed,
+    match bulk::fill(reader, block) {
+        Input::Failed(why) => Step::Failed(why),
         Input::Text(n) => {
             if n == 0 {
                 return Step::End;
@@ -89,14 +90,14 @@ fn last(n: usize, c: Cursor) -> Line {
 }
 
 // The line at the cursor. The count of turns, which no input uses up, is there since a proved loop has to end.
-fn line_in(block: &mut [u8], name: &mut [u8], c: Cursor) -> Line {
+fn line_in(reader: &mut impl Read, block: &mut [u8], name: &mut [u8], c: Cursor) -> Line {
     let mut turns = u64::MAX;
     let mut now = c;
     let mut n = 0;
     while 0 < turns {
-        match next_byte(block, now) {
-            Step::Failed => {
-                return Line::Failed;
+        match next_byte(reader, block, now) {
+            Step::Failed(why) => {
+                return Line::Failed(why);
             }
             Step::End => {
                 return last(n, now);
@@ -115,7 +116,7 @@ fn line_in(block: &mut [u8], name: &mut [u8], c: Cursor) -> Line {
     Line::End
 }
 
-// The next line, its bytes at the start of the name.
-pub fn next_line(block: &mut Block, name: &mut Name, c: Cursor) -> Line {
-    line_in(block, name, c)
+// The next line of a reader, its bytes at the start of the name.
+pub fn next_line(reader: &mut impl Read, block: &mut Block, name: &mut Name, c: Cursor) -> Line {
+    line_in(reader, block, name, c)
 }

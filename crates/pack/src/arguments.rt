@@ -2,6 +2,8 @@
 use crate::shelf::{Pool, Rows, Shelf};
 use crate::{book, list, shelf, told};
 use console::Operand;
+use host::{Failure, Host};
+use std::env::Env;
 
 // What an argument before the names is.
 #[derive(Clone, Copy)]
@@ -59,9 +61,9 @@ fn option(word: &[u8; 10], n: usize) -> Word {
 }
 
 // What an argument is.
-fn word_at(i: usize) -> Word {
+fn word_at(rt: &impl Env, i: usize) -> Word {
     let mut word = [0u8; 10];
-    let n = os::arg(i, &mut word);
+    let n = host::argument_or_none(rt, i, &mut word);
     if word[0] != b'-' {
         return Word::Name;
     }
@@ -69,35 +71,45 @@ fn word_at(i: usize) -> Word {
 }
 
 // Tells of a name that is longer than a file's name can be.
-fn long_name(name: &mut [u8]) {
+fn long_name(name: &mut [u8], why: Failure) {
     cells::copy_bytes(name, 60, b"..", 2);
-    console::tell_reason(sink::first_bytes(name, 62))
+    console::tell_reason(sink::first_bytes(name, 62), why)
 }
 
 // The file that an argument names, under the name that another gives.
-fn shown(pool: &mut [u8], rows: &mut [u32], s: Shelf, file: &[u8], i: usize) -> Shelf {
+fn shown(
+    rt: &impl Host,
+    pool: &mut [u8],
+    rows: &mut [u32],
+    s: Shelf,
+    file: &[u8],
+    i: usize,
+) -> Shelf {
     let mut name = io::buffer();
-    let n = os::arg(i, &mut name);
-    if os::errno() != 0 {
-        long_name(&mut name);
-        return shelf::spoilt(s);
+    match host::argument(rt, i, &mut name) {
+        Ok(n) => list::file(rt, pool, rows, s, file, sink::first_bytes(&name, n)),
+        Err(why) => {
+            long_name(&mut name, why);
+            shelf::spoilt(s)
+        }
     }
-    list::file(pool, rows, s, file, sink::first_bytes(&name, n))
 }
 
 // The module that an argument names.
-fn operand(pool: &mut [u8], rows: &mut [u32], s: Shelf, o: Operand) -> Shelf {
+fn operand(rt: &impl Host, pool: &mut [u8], rows: &mut [u32], s: Shelf, o: Operand) -> Shelf {
     let mut file = io::buffer();
-    let n = os::arg(o.file, &mut file);
-    if os::errno() != 0 {
-        long_name(&mut file);
-        return shelf::spoilt(s);
+    match host::argument(rt, o.file, &mut file) {
+        Ok(n) => shown(rt, pool, rows, s, sink::first_bytes(&file, n), o.shown),
+        Err(why) => {
+            long_name(&mut file, why);
+            shelf::spoilt(s)
+        }
     }
-    shown(pool, rows, s, sink::first_bytes(&file, n), o.shown)
 }
 
 // The modules that the arguments from the i-th on name; behind --, which stands before the first, none is an option.
 fn operands(
+    rt: &impl Host,
     pool: &mut [u8],
     rows: &mut [u32],
     s: Shelf,
@@ -108,23 +120,23 @@ fn operands(
     let mut now = s;
     let mut i = first;
     while i < count {
-        let o = console::operand_at(i, end);
-        now = operand(pool, rows, now, o);
+        let o = console::operand_at(rt, i, end);
+        now = operand(rt, pool, rows, now, o);
         i = sink::end_of(i + 1, o.more, count);
     }
     now
 }
 
 // The modules that are named, and their book.
-fn work(pool: &mut [u8], rows: &mut [u32], asked: Job, count: usize) {
+fn work(rt: &impl Host, pool: &mut [u8], rows: &mut [u32], asked: Job, count: usize) {
     let first = asked.first;
     let skip = asked.skip;
     let empty = shelf::new(asked.fixups);
     if count <= first {
-        let s = list::standard(pool, rows, empty);
+        let s = list::standard(rt, pool, rows, empty);
         book::write(pool, rows, s, skip);
     } else {
-        let s = operands(pool, rows, empty, first, asked.end, count);
+        let s = operands(rt, pool, rows, empty, first, asked.end, count);
         book::write(pool, rows, s, skip);
     }
 }
@@ -158,12 +170,12 @@ fn work_from(first: usize, end: usize, skip: bool, fixups: bool) -> Request {
 }
 
 // What the options before the names ask for.
-fn asked(count: usize) -> Request {
+fn asked(rt: &impl Env, count: usize) -> Request {
     let mut skip = false;
     let mut fixups = false;
     let mut i = 1;
     while i < count {
-        match word_at(i) {
+        match word_at(rt, i) {
             Word::Skip => {
                 skip = true;
             }
@@ -189,18 +201,18 @@ fn asked(count: usize) -> Request {
 }
 
 // Does what is asked for.
-fn answered(pool: &mut [u8], rows: &mut [u32], count: usize) {
-    match asked(count) {
-        Request::Work(asked) => work(pool, rows, asked, count),
+fn answered(rt: &impl Host, pool: &mut [u8], rows: &mut [u32], count: usize) {
+    match asked(rt, count) {
+        Request::Work(asked) => work(rt, pool, rows, asked, count),
         Request::Help => told::help(),
         Request::Unknown(i) => {
-            console::tell_option(i);
+            console::tell_option(rt, i);
             told::usage()
         }
     }
 }
 
 // The whole program.
-pub(crate) fn run(pool: &mut Pool, rows: &mut Rows) {
-    answered(pool, rows, os::arg_count())
+pub(crate) fn run(rt: &impl Host, pool: &mut Pool, rows: &mut Rows) {
+    answered(rt, pool, rows, host::argument_count(rt))
 }

@@ -2,7 +2,7 @@
 use crate::shelf::Shelf;
 use crate::told;
 use book_plan::Wrote;
-use libc::STDOUT_FILENO;
+use host::STDOUT_FILENO;
 
 // The most entries, and the longest book of so many: their rows, and what the pool has.
 const ENTRIES: usize = 16384;
@@ -30,7 +30,7 @@ fn put(out: &mut [u8], order: &mut [u32], pool: &[u8], rows: &[u32], n: u32) {
         Wrote::Refused { number, place } => unwritten(pool, rows, number, place),
         Wrote::Book { length } => {
             if !io::write_all(STDOUT_FILENO, sink::first_bytes(out, length)) {
-                console::tell_reason(b"standard output");
+                console::tell_reason(b"standard output", host::last_failure());
             }
         }
     }

@@ -3,7 +3,9 @@ use crate::shelf::Shelf;
 use crate::{module, shelf};
 use bulk::Input;
 use console::Room;
+use host::Host;
 use rooms::INPUT_ROOM;
+use std::io::Read;
 
 // How many bytes the names on standard input may have.
 const NAMES: usize = 524288;
@@ -23,12 +25,18 @@ fn first(
     module::add(pool, rows, s, sink::first_bytes(room, n), shown)
 }
 
-// The module that a descriptor gives.
-fn read(pool: &mut [u8], rows: &mut [u32], s: Shelf, fd: i32, shown: &[u8]) -> Shelf {
+// The module that a reader gives.
+fn read(
+    reader: &mut impl Read,
+    pool: &mut [u8],
+    rows: &mut [u32],
+    s: Shelf,
+    shown: &[u8],
+) -> Shelf {
     let mut room = [0u8; INPUT_ROOM];
-    match console::fill(fd, &mut room) {
-        Input::Failed => {
-            console::tell_reason(shown);
+    match console::fill(reader, &mut room) {
+        Input::Failed(why) => {
+            console::tell_reason(shown, why);
             shelf::spoilt(s)
         }
         Input::Text(n) => first(pool, rows, s, &room, n, shown),
@@ -37,20 +45,20 @@ fn read(pool: &mut [u8], rows: &mut [u32], s: Shelf, fd: i32, shown: &[u8]) -> S
 
 // The module of a file.
 pub(crate) fn file(
+    rt: &impl Host,
     pool: &mut [u8],
     rows: &mut [u32],
     s: Shelf,
     file: &[u8],
     shown: &[u8],
 ) -> Shelf {
-    let fd = os::open_read(file);
-    if fd < 0 {
-        console::tell_reason(shown);
-        return shelf::spoilt(s);
+    match host::open(rt, file) {
+        Ok(mut opened) => read(&mut opened, pool, rows, s, shown),
+        Err(why) => {
+            console::tell_reason(shown, why);
+            shelf::spoilt(s)
+        }
     }
-    let t = read(pool, rows, s, fd, shown);
-    libc::close(fd);
-    t
 }
 
 // The end of the line that begins at a place.
@@ -66,11 +74,11 @@ fn line_end(names: &[u8], at: usize) -> usize {
 }
 
 // The module that a line names; an empty line names none.
-fn one(pool: &mut [u8], rows: &mut [u32], s: Shelf, name: &[u8]) -> Shelf {
+fn one(rt: &impl Host, pool: &mut [u8], rows: &mut [u32], s: Shelf, name: &[u8]) -> Shelf {
     if name.len() == 0 {
         return s;
     }
-    file(pool, rows, s, name, name)
+    file(rt, pool, rows, s, name, name)
 }
 
 // The line that begins at a place, without its end.
@@ -88,12 +96,12 @@ fn next_line(names: &[u8], at: usize) -> usize {
 }
 
 // The modules that lines name. The turns, one for each byte, are there since a proved loop has to end.
-fn lines(pool: &mut [u8], rows: &mut [u32], s: Shelf, names: &[u8]) -> Shelf {
+fn lines(rt: &impl Host, pool: &mut [u8], rows: &mut [u32], s: Shelf, names: &[u8]) -> Shelf {
     let mut now = s;
     let mut at = 0;
     let mut turns = names.len();
     while 0 < turns {
-        now = one(pool, rows, now, line_at(names, at));
+        now = one(rt, pool, rows, now, line_at(names, at));
         at = next_line(names, at);
         turns -= 1;
         if names.len() <= at {
@@ -109,18 +117,18 @@ fn empty_names() -> Names {
 }
 
 // The modules that standard input names.
-pub(crate) fn standard(pool: &mut [u8], rows: &mut [u32], s: Shelf) -> Shelf {
+pub(crate) fn standard(rt: &impl Host, pool: &mut [u8], rows: &mut [u32], s: Shelf) -> Shelf {
     let mut names = empty_names();
-    named(pool, rows, s, &mut names)
+    named(rt, pool, rows, s, &mut names)
 }
 
 // The same with the room for all names.
-fn named(pool: &mut [u8], rows: &mut [u32], s: Shelf, names: &mut Names) -> Shelf {
-    match bulk::fill(libc::STDIN_FILENO, names) {
-        Input::Failed => {
-            console::tell_reason(b"standard input");
+fn named(rt: &impl Host, pool: &mut [u8], rows: &mut [u32], s: Shelf, names: &mut Names) -> Shelf {
+    match bulk::fill(&mut rt.reader(), names) {
+        Input::Failed(why) => {
+            console::tell_reason(b"standard input", why);
             shelf::spoilt(s)
         }
-        Input::Text(n) => lines(pool, rows, s, sink::first_bytes(names, n)),
+        Input::Text(n) => lines(rt, pool, rows, s, sink::first_bytes(names, n)),
     }
 }

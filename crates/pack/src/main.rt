@@ -10,8 +10,8 @@ mod shelf;
 mod told;
 mod whole;
 
-fn main() {
+fn main(rt: HostRuntime) {
     let mut pool = shelf::empty_pool();
     let mut rows = shelf::empty_rows();
-    arguments::run(&mut pool, &mut rows)
+    arguments::run(&rt, &mut pool, &mut rows)
 }

@@ -1,5 +1,5 @@
 // What is told beside what every program tells.
-use libc::{STDERR_FILENO, STDOUT_FILENO};
+use host::{STDERR_FILENO, STDOUT_FILENO};
 
 // More than the room for a book.
 pub(crate) fn full() {

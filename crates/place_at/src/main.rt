@@ -6,8 +6,10 @@ mod told;
 
 use alike::same_name;
 use console::{Input, Room};
+use host::Host;
 use module::Asked;
 use rooms::INPUT_ROOM;
+use std::env::Env;
 
 // What the first argument asks for.
 #[derive(Clone, Copy)]
@@ -29,9 +31,9 @@ fn first_of(word: &[u8]) -> First {
 }
 
 // What the first argument asks for; without one the lines.
-fn first_word() -> First {
+fn first_word(rt: &impl Env) -> First {
     let mut word = [0u8; 8];
-    let n = os::arg(1, &mut word);
+    let n = host::argument_or_none(rt, 1, &mut word);
     first_of(sink::first_bytes(&word, n))
 }
 
@@ -41,37 +43,40 @@ fn empty_room() -> Room {
 }
 
 // Places the module in the first n bytes of the room.
-fn place_first(room: &Room, n: usize, asked: Asked) {
-    module::place_text(sink::first_bytes(room, n), asked)
+fn place_first(rt: &impl Env, room: &Room, n: usize, asked: Asked) {
+    module::place_text(rt, sink::first_bytes(room, n), asked)
 }
 
 // Places the module on standard input.
-fn place_standard(asked: Asked) {
+fn place_standard(rt: &impl Host, asked: Asked) {
     let mut room = empty_room();
-    match console::fill(libc::STDIN_FILENO, &mut room) {
-        Input::Failed => console::tell_reason(b"-"),
-        Input::Text(n) => place_first(&room, n, asked),
+    match console::fill(&mut rt.reader(), &mut room) {
+        Input::Failed(why) => console::tell_reason(b"-", why),
+        Input::Text(n) => place_first(rt, &room, n, asked),
     }
 }
 
 // Places by the arguments from one on.
-fn place(from: usize, raw: bool) {
-    let count = os::arg_count();
-    if !address_arguments::are_right(from, count) {
+fn place(rt: &impl Host, from: usize, raw: bool) {
+    let count = host::argument_count(rt);
+    if !address_arguments::are_right(rt, from, count) {
         told::usage();
         return;
     }
-    place_standard(Asked {
-        from: from,
-        count: count,
-        raw: raw,
-    })
+    place_standard(
+        rt,
+        Asked {
+            from: from,
+            count: count,
+            raw: raw,
+        },
+    )
 }
 
-fn main() {
-    match first_word() {
+fn main(rt: HostRuntime) {
+    match first_word(&rt) {
         First::Help => told::help(),
-        First::Raw => place(2, true),
-        First::Lines => place(1, false),
+        First::Raw => place(&rt, 2, true),
+        First::Lines => place(&rt, 1, false),
     }
 }

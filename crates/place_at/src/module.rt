@@ -6,6 +6,7 @@ use placed_code::Placed;
 use placed_lines::Shape;
 use rooms::{AREA_ROOM, FIXUP_ROOM, IMAGE_ROOM, SYMBOL_ROOM};
 use sink::Buffer;
+use std::env::Env;
 
 // Where the addresses begin among so many arguments, and whether the bytes alone are asked for.
 #[derive(Clone, Copy)]
@@ -92,8 +93,8 @@ fn write_lines(
 
 // Writes placed bytes.
 fn write_bytes(placed: &[u8]) {
-    if !io::write_all(libc::STDOUT_FILENO, placed) {
-        os::fail(b"standard output");
+    if !io::write_all(host::STDOUT_FILENO, placed) {
+        host::tell_failure(b"standard output", host::last_failure());
     }
 }
 
@@ -132,6 +133,7 @@ fn code_at(text: &[u8], addresses: &Addresses, out: &mut Image) -> Placed {
 
 // Places a module whose tables are at hand.
 fn place_read(
+    rt: &impl Env,
     text: &[u8],
     asked: Asked,
     counts: Counts,
@@ -141,6 +143,7 @@ fn place_read(
 ) {
     let mut addresses = empty_addresses();
     if !address_arguments::choose(
+        rt,
         text,
         symbols,
         counts.symbols,
@@ -173,7 +176,7 @@ fn read(
 }
 
 // Places a module.
-pub(crate) fn place_text(text: &[u8], asked: Asked) {
+pub(crate) fn place_text(rt: &impl Env, text: &[u8], asked: Asked) {
     let mut areas = [0u32; AREA_ROOM];
     let mut symbols = empty_symbols();
     let mut fixups = empty_fixups();
@@ -181,7 +184,7 @@ pub(crate) fn place_text(text: &[u8], asked: Asked) {
         Answer::Refusal { number, place } => refused(number, place, asked.raw),
         Answer::Accepted { counts, verdict } => match verdict {
             Verdict::Stopped { place } => console::tell_place(b"-", place),
-            Verdict::Finished => place_read(text, asked, counts, &areas, &symbols, &fixups),
+            Verdict::Finished => place_read(rt, text, asked, counts, &areas, &symbols, &fixups),
         },
     }
 }

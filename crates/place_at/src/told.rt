@@ -1,5 +1,5 @@
 // The use and the help.
-use libc::{STDERR_FILENO, STDOUT_FILENO};
+use host::{STDERR_FILENO, STDOUT_FILENO};
 
 // How the program is called.
 pub(crate) fn usage() {

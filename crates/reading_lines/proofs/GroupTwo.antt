@@ -114,7 +114,7 @@ content-in bs n b e h i = rw (i, laid bs b (omega arith), e) (take-append_seam b
 
 -- ------------------------------------------------------------------ placing one pair
 
-told-stands : (r : place.Placed) (vs ms rows : List ℕ) (o : Outcome State) → told r vs ms rows ≡ some o → stands (standingOf r) vs ms rows ≡ o
+told-stands : (r : place.Placed) (vs ms rows : List ℕ) (o : Outcome State) → told r vs ms rows ≡ some o → stands (standing_of r) vs ms rows ≡ o
 told-stands (Through k x) vs ms rows o e = cc
 told-stands (Stopped n p) vs ms rows o e = cc
 told-stands Misfit vs ms rows o e = absurd (let z : ◌≡◌ {A = ℕ} 0 1 = cc in omega arith)
@@ -439,13 +439,13 @@ module _ {ended : Bool} (f : text.Form) {text areas : List ℕ} {g : Progress} (
         room = j;
       }))
 
-  body-eq : the.placed (content_of (line_for f g.next plan.address plan.count plan.area plan.fragments) b') (record { area = plan.area; fragments = fragmentsIn ms' es' xs' plan.fragments }) ≡ here.pair
+  body-eq : the.placed (content_of (line_for f g.next plan.address plan.count plan.area plan.fragments) b') (record { area = plan.area; fragments = fragments_in ms' es' xs' plan.fragments }) ≡ here.pair
   body-eq =
       let few = plan.few in
       let long : length w.relocation.fragments ≤ 64 = omega (arith, w.so.fragments) in
       let c : content_of (line_for f g.next plan.address plan.count plan.area plan.fragments) b' ≡ w.content =
       λ j. record { address = w.so.address j; bytes = content-in w.content.bytes plan.count b w.so.count (omega (arith, plan.short, z.of-bytes)) w.so.bytes j } in
-      let fs : fragmentsIn ms' es' xs' plan.fragments ≡ w.relocation.fragments =
+      let fs : fragments_in ms' es' xs' plan.fragments ≡ w.relocation.fragments =
       ap (fragments_in ms' es' xs') w.so.fragments ∙ fragments-in w.relocation.fragments (omega (arith, z.of-modes)) (omega (arith, z.of-entries)) (omega (arith, z.of-indexes)) w.so.rows in
       let r : ◌≡◌ {A = the.Relocation} (record { area = plan.area; fragments = fragments_in ms' es' xs' plan.fragments }) w.relocation = λ j. record { area = w.so.area j; fragments = fs j } in
       (λ j. the.placed (c j) (r j)) ∙ sym w.is

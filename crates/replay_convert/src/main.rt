@@ -5,12 +5,13 @@
 use console::{Input, Room};
 use convert_answer::Converted;
 use convert_module::convert;
+use host::Host;
 use rooms::{INPUT_ROOM, TEXT_ROOM};
 
 // Words and a number.
 fn put(words: &[u8], n: usize) {
-    io::write_all(libc::STDOUT_FILENO, words);
-    io::print_decimal(libc::STDOUT_FILENO, n as u64);
+    io::write_all(host::STDOUT_FILENO, words);
+    io::print_decimal(host::STDOUT_FILENO, n as u64);
 }
 
 // Writes what is made of a module.
@@ -20,7 +21,7 @@ fn show(text: &[u8]) {
         Converted::Refusal { number, place } => {
             put(b"refused ", number as usize);
             put(b" at ", place);
-            io::write_all(libc::STDOUT_FILENO, b"\n");
+            io::write_all(host::STDOUT_FILENO, b"\n");
         }
         Converted::Stopped {
             place,
@@ -30,10 +31,10 @@ fn show(text: &[u8]) {
             put(b"stopped at ", place);
             put(b" reason ", reason as usize);
             put(b" halt ", halt);
-            io::write_all(libc::STDOUT_FILENO, b"\n");
+            io::write_all(host::STDOUT_FILENO, b"\n");
         }
         Converted::Bytes { count } => {
-            io::write_all(libc::STDOUT_FILENO, sink::first_bytes(&out, count));
+            io::write_all(host::STDOUT_FILENO, sink::first_bytes(&out, count));
         }
     }
 }
@@ -44,27 +45,27 @@ fn show_first(room: &Room, n: usize) {
 }
 
 // Writes an argument, then what is made of the module that it names.
-fn show_argument(i: usize) {
+fn show_argument(rt: &impl Host, i: usize) {
     let mut name = [0u8; 64];
-    let k = os::arg(i, &mut name);
-    io::write_all(libc::STDOUT_FILENO, sink::first_bytes(&name, k));
-    io::write_all(libc::STDOUT_FILENO, b":\n");
+    let k = host::argument_or_none(rt, i, &mut name);
+    io::write_all(host::STDOUT_FILENO, sink::first_bytes(&name, k));
+    io::write_all(host::STDOUT_FILENO, b":\n");
     let mut room = [0u8; INPUT_ROOM];
-    match argument_text::fetch(i, &mut room) {
-        Input::Failed => {}
+    match argument_text::fetch(rt, i, &mut room) {
+        Input::Failed(_) => {}
         Input::Text(n) => show_first(&room, n),
     }
 }
 
 // The same of all arguments.
-fn show_all(count: usize) {
+fn show_all(rt: &impl Host, count: usize) {
     let mut i = 1;
     while i < count {
-        show_argument(i);
+        show_argument(rt, i);
         i += 1;
     }
 }
 
-fn main() {
-    show_all(os::arg_count())
+fn main(rt: HostRuntime) {
+    show_all(&rt, host::argument_count(&rt))
 }

@@ -3,9 +3,11 @@ use crate::module::{Said, say};
 use console::{Input, Room};
 use counts_of::Counted;
 use ended_answer::Verdict;
+use host::{Failure, Host};
 use kinds::Kinds;
 use rooms::INPUT_ROOM;
 use sink::{Buffer, Sink};
+use std::io::Read;
 use totals::Totals;
 
 // What waits to be written, and the totals so far.
@@ -49,9 +51,9 @@ fn tally_refused(s: Sink, t: Totals) -> Tally {
     }
 }
 
-// A file that cannot be read; errno tells why.
-fn unread(page: bool, s: Sink, out: &mut Buffer, t: Totals, name: &[u8]) -> Tally {
-    let s1 = console::complain(s, out, name);
+// A file that cannot be read, and why.
+fn unread(page: bool, s: Sink, out: &mut Buffer, t: Totals, name: &[u8], why: Failure) -> Tally {
+    let s1 = console::complain(s, out, name, why);
     tally_refused(refused(page, s1, out, name, 26, 0), t)
 }
 
@@ -98,17 +100,25 @@ fn empty_room() -> Room {
     [0; INPUT_ROOM]
 }
 
-// The text that a descriptor gives.
-fn input(page: bool, s: Sink, out: &mut Buffer, t: Totals, name: &[u8], fd: i32) -> Tally {
+// The text that a reader gives.
+fn input(
+    reader: &mut impl Read,
+    page: bool,
+    s: Sink,
+    out: &mut Buffer,
+    t: Totals,
+    name: &[u8],
+) -> Tally {
     let mut room = empty_room();
-    match console::fill(fd, &mut room) {
-        Input::Failed => unread(page, s, out, t, name),
+    match console::fill(reader, &mut room) {
+        Input::Failed(why) => unread(page, s, out, t, name, why),
         Input::Text(n) => first(page, s, out, t, name, &room, n),
     }
 }
 
 // The module of a file, shown under a name.
 pub(crate) fn told(
+    rt: &impl Host,
     page: bool,
     s: Sink,
     out: &mut Buffer,
@@ -116,11 +126,8 @@ pub(crate) fn told(
     file: &[u8],
     name: &[u8],
 ) -> Tally {
-    let fd = os::open_read(file);
-    if fd < 0 {
-        return unread(page, s, out, t, name);
+    match host::open(rt, file) {
+        Ok(mut opened) => input(&mut opened, page, s, out, t, name),
+        Err(why) => unread(page, s, out, t, name, why),
     }
-    let tally = input(page, s, out, t, name, fd);
-    libc::close(fd);
-    tally
 }

@@ -1,5 +1,6 @@
 // What --help prints, and what an option prints that is not known.
-use libc::{STDERR_FILENO, STDOUT_FILENO};
+use host::{STDERR_FILENO, STDOUT_FILENO};
+use std::env::Env;
 
 // How the program is called, and what it writes.
 fn usage() -> bool {
@@ -27,12 +28,12 @@ pub(crate) fn help() {
     if usage() {
         return;
     }
-    os::fail(b"standard output")
+    host::tell_failure(b"standard output", host::last_failure())
 }
 
 // Tells of an option that is not known, and how the program is called.
-pub(crate) fn tell_unknown(i: usize) {
-    console::tell_option(i);
+pub(crate) fn tell_unknown(rt: &impl Env, i: usize) {
+    console::tell_option(rt, i);
     io::write_all(
         STDERR_FILENO,
         b"usage: report [--named] [--page] <NAMES, or report --help\n",

@@ -7,6 +7,6 @@ mod module;
 mod names;
 mod options;
 
-fn main() {
-    options::run()
+fn main(rt: HostRuntime) {
+    options::run(&rt)
 }

@@ -1,7 +1,9 @@
 // The names, one after the other.
 use crate::file::{Tally, told};
+use host::{Failure, Host};
 use name_lines::{Block, Cursor, Line, Name};
 use sink::{Buffer, Sink};
+use std::io::Read;
 use totals::Totals;
 
 // What waits to be written and the totals, where the input is, how many names were taken, whether each has a second line, and whether a page is asked for.
@@ -22,7 +24,14 @@ enum Turn {
 }
 
 // One name more, shown under its own or another one, unless there are too many.
-fn one(g: Going, out: &mut Buffer, file: &[u8], shown: &[u8], next: Cursor) -> Turn {
+fn one(
+    rt: &impl Host,
+    g: Going,
+    out: &mut Buffer,
+    file: &[u8],
+    shown: &[u8],
+    next: Cursor,
+) -> Turn {
     let tally = g.tally;
     let s = tally.sink;
     let t = tally.totals;
@@ -31,7 +40,7 @@ fn one(g: Going, out: &mut Buffer, file: &[u8], shown: &[u8], next: Cursor) -> T
         return Turn::Done(too_many(g.page, s, t, out));
     }
     Turn::On(Going {
-        tally: told(g.page, s, out, t, file, shown),
+        tally: told(rt, g.page, s, out, t, file, shown),
         cursor: next,
         names: std::num::wrapping_add_u64(names, 1),
         pairs: g.pairs,
@@ -68,30 +77,52 @@ fn begins_in(shown: &mut [u8; 62], name: &Name) {
 }
 
 // A file, shown under what an array holds.
-fn one_begun(g: Going, out: &mut Buffer, file: &[u8], shown: &[u8; 62], next: Cursor) -> Turn {
-    one(g, out, file, shown, next)
+fn one_begun(
+    rt: &impl Host,
+    g: Going,
+    out: &mut Buffer,
+    file: &[u8],
+    shown: &[u8; 62],
+    next: Cursor,
+) -> Turn {
+    one(rt, g, out, file, shown, next)
 }
 
 // A file, shown under a name that is too long.
-fn long(g: Going, out: &mut Buffer, file: &[u8], name: &Name, next: Cursor) -> Turn {
+fn long(
+    rt: &impl Host,
+    g: Going,
+    out: &mut Buffer,
+    file: &[u8],
+    name: &Name,
+    next: Cursor,
+) -> Turn {
     let mut shown = [0u8; 62];
     begins_in(&mut shown, name);
-    one_begun(g, out, file, &shown, next)
+    one_begun(rt, g, out, file, &shown, next)
 }
 
 // A file whose name is too long.
-fn long_name(g: Going, out: &mut Buffer, name: &Name, next: Cursor) -> Turn {
-    long(g, out, name, name, next)
+fn long_name(rt: &impl Host, g: Going, out: &mut Buffer, name: &Name, next: Cursor) -> Turn {
+    long(rt, g, out, name, name, next)
 }
 
 // The first n bytes of a second line.
-fn one_as(g: Going, out: &mut Buffer, file: &[u8], shown: &Name, n: usize, next: Cursor) -> Turn {
-    one(g, out, file, sink::first_bytes(shown, n), next)
+fn one_as(
+    rt: &impl Host,
+    g: Going,
+    out: &mut Buffer,
+    file: &[u8],
+    shown: &Name,
+    n: usize,
+    next: Cursor,
+) -> Turn {
+    one(rt, g, out, file, sink::first_bytes(shown, n), next)
 }
 
 // Standard input cannot be read, which the page tells too.
-fn failed(page: bool, tally: Tally, out: &mut Buffer) -> Tally {
-    let s = console::complain(tally.sink, out, b"standard input");
+fn failed(page: bool, tally: Tally, out: &mut Buffer, why: Failure) -> Tally {
+    let s = console::complain(tally.sink, out, b"standard input", why);
     Tally {
         sink: if page {
             page_row::failed_row(s, out)
@@ -103,22 +134,32 @@ fn failed(page: bool, tally: Tally, out: &mut Buffer) -> Tally {
 }
 
 // A file that the second line says how to show; an empty one says nothing.
-fn second(g: Going, out: &mut Buffer, block: &mut Block, file: &[u8], next: Cursor) -> Turn {
+fn second(
+    rt: &impl Host,
+    reader: &mut impl Read,
+    g: Going,
+    out: &mut Buffer,
+    block: &mut Block,
+    file: &[u8],
+    next: Cursor,
+) -> Turn {
     let mut shown = [0u8; 4096];
-    match name_lines::next_line(block, &mut shown, next) {
-        Line::Name { length, next } => one_as(g, out, file, &shown, length, next),
-        Line::Long { next } => long(g, out, file, &shown, next),
-        Line::Empty { next } => one(g, out, file, file, next),
-        Line::End => one(g, out, file, file, next),
-        Line::Failed => {
+    match name_lines::next_line(reader, block, &mut shown, next) {
+        Line::Name { length, next } => one_as(rt, g, out, file, &shown, length, next),
+        Line::Long { next } => long(rt, g, out, file, &shown, next),
+        Line::Empty { next } => one(rt, g, out, file, file, next),
+        Line::End => one(rt, g, out, file, file, next),
+        Line::Failed(why) => {
             let tally = g.tally;
-            Turn::Done(failed(g.page, tally, out))
+            Turn::Done(failed(g.page, tally, out, why))
         }
     }
 }
 
 // A file of n bytes' name.
 fn file_of(
+    rt: &impl Host,
+    reader: &mut impl Read,
     g: Going,
     out: &mut Buffer,
     block: &mut Block,
@@ -128,21 +169,28 @@ fn file_of(
 ) -> Turn {
     let file = sink::first_bytes(name, n);
     if g.pairs {
-        return second(g, out, block, file, next);
+        return second(rt, reader, g, out, block, file, next);
     }
-    one(g, out, file, file, next)
+    one(rt, g, out, file, file, next)
 }
 
 // The next line.
-fn next_turn(g: Going, out: &mut Buffer, block: &mut Block, name: &mut Name) -> Turn {
+fn next_turn(
+    rt: &impl Host,
+    reader: &mut impl Read,
+    g: Going,
+    out: &mut Buffer,
+    block: &mut Block,
+    name: &mut Name,
+) -> Turn {
     let tally = g.tally;
     let cursor = g.cursor;
     if tally.sink.broken {
         return Turn::Done(tally);
     }
-    match name_lines::next_line(block, name, cursor) {
-        Line::Name { length, next } => file_of(g, out, block, name, length, next),
-        Line::Long { next } => long_name(g, out, name, next),
+    match name_lines::next_line(reader, block, name, cursor) {
+        Line::Name { length, next } => file_of(rt, reader, g, out, block, name, length, next),
+        Line::Long { next } => long_name(rt, g, out, name, next),
         Line::Empty { next } => Turn::On(Going {
             tally: tally,
             cursor: next,
@@ -151,16 +199,23 @@ fn next_turn(g: Going, out: &mut Buffer, block: &mut Block, name: &mut Name) -> 
             page: g.page,
         }),
         Line::End => Turn::Done(tally),
-        Line::Failed => Turn::Done(failed(g.page, tally, out)),
+        Line::Failed(why) => Turn::Done(failed(g.page, tally, out, why)),
     }
 }
 
 // All lines. The count of turns, which no input uses up, is there since a proved loop has to end.
-fn all(g: Going, out: &mut Buffer, block: &mut Block, name: &mut Name) -> Tally {
+fn all(
+    rt: &impl Host,
+    reader: &mut impl Read,
+    g: Going,
+    out: &mut Buffer,
+    block: &mut Block,
+    name: &mut Name,
+) -> Tally {
     let mut turns = u64::MAX;
     let mut now = g;
     while 0 < turns {
-        match next_turn(now, out, block, name) {
+        match next_turn(rt, reader, now, out, block, name) {
             Turn::On(next) => {
                 now = next;
             }
@@ -179,7 +234,7 @@ fn empty_block() -> Block {
 }
 
 // What the lines of standard input name, and the totals then.
-pub(crate) fn named(s: Sink, out: &mut Buffer, pairs: bool, page: bool) -> Tally {
+pub(crate) fn named(rt: &impl Host, s: Sink, out: &mut Buffer, pairs: bool, page: bool) -> Tally {
     let mut block = empty_block();
     let mut name = [0u8; 4096];
     let tally = Tally {
@@ -193,5 +248,5 @@ pub(crate) fn named(s: Sink, out: &mut Buffer, pairs: bool, page: bool) -> Tally
         pairs: pairs,
         page: page,
     };
-    all(g, out, &mut block, &mut name)
+    all(rt, &mut rt.reader(), g, out, &mut block, &mut name)
 }

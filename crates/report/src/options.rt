@@ -1,7 +1,9 @@
 // What the program's arguments ask for.
 use crate::help;
 use crate::names::named;
+use host::Host;
 use sink::{Buffer, Sink};
+use std::env::Env;
 
 // What is asked for: the report, with a second line for each name or not and as a page or not; the help; or what is not known, by the argument's number.
 #[derive(Clone, Copy)]
@@ -36,19 +38,19 @@ fn word_of(room: &[u8; 8], n: usize) -> Word {
 }
 
 // What an argument is.
-fn word_at(i: usize) -> Word {
+fn word_at(rt: &impl Env, i: usize) -> Word {
     let mut room = [0u8; 8];
-    let n = os::arg(i, &mut room);
+    let n = host::argument_or_none(rt, i, &mut room);
     word_of(&room, n)
 }
 
 // What the arguments ask for: the first that is not known, or that asks for help, decides.
-fn asked(count: usize) -> Request {
+fn asked(rt: &impl Env, count: usize) -> Request {
     let mut pairs = false;
     let mut page = false;
     let mut i = 1;
     while i < count {
-        match word_at(i) {
+        match word_at(rt, i) {
             Word::Pairs => {
                 pairs = true;
             }
@@ -71,29 +73,29 @@ fn asked(count: usize) -> Request {
 }
 
 // The report.
-fn work(out: &mut Buffer, pairs: bool) {
-    let tally = named(sink::new(), out, pairs, false);
+fn work(rt: &impl Host, out: &mut Buffer, pairs: bool) {
+    let tally = named(rt, sink::new(), out, pairs, false);
     let s = tally.sink;
     let t = tally.totals;
     written(report_lines::totals_lines(s, out, t), out)
 }
 
 // The report as a page.
-fn work_page(out: &mut Buffer, pairs: bool) {
+fn work_page(rt: &impl Host, out: &mut Buffer, pairs: bool) {
     let begun = report_page::starting(sink::new(), out);
-    let tally = named(begun, out, pairs, true);
+    let tally = named(rt, begun, out, pairs, true);
     let s = tally.sink;
     let t = tally.totals;
     written(report_page::ending(s, out, t), out)
 }
 
 // The report as it is asked for.
-fn work_as(out: &mut Buffer, pairs: bool, page: bool) {
+fn work_as(rt: &impl Host, out: &mut Buffer, pairs: bool, page: bool) {
     if page {
-        work_page(out, pairs);
+        work_page(rt, out, pairs);
         return;
     }
-    work(out, pairs)
+    work(rt, out, pairs)
 }
 
 // Writes what still waits.
@@ -102,11 +104,11 @@ fn written(s: Sink, out: &Buffer) {
 }
 
 // The whole program.
-pub(crate) fn run() {
+pub(crate) fn run(rt: &impl Host) {
     let mut out = io::large_buffer();
-    match asked(os::arg_count()) {
-        Request::Work { pairs, page } => work_as(&mut out, pairs, page),
+    match asked(rt, host::argument_count(rt)) {
+        Request::Work { pairs, page } => work_as(rt, &mut out, pairs, page),
         Request::Help => help::help(),
-        Request::Unknown(i) => help::tell_unknown(i),
+        Request::Unknown(i) => help::tell_unknown(rt, i),
     }
 }

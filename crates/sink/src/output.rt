@@ -2,7 +2,7 @@
 ghost use Rattle.std.specs.Prelude.{◌≡◌};
 ghost use Rattle.sink.specs.Sinks.{empty, lost, Adds, Written};
 
-use libc::STDOUT_FILENO;
+use host::STDOUT_FILENO;
 
 // Where bytes wait until they are written.
 pub type Buffer = [u8; 65536];
@@ -48,7 +48,7 @@ fn write(s: Sink, out: &[u8]) -> Sink
     if io::write_all(STDOUT_FILENO, &out[0..used]) {
         return new();
     }
-    os::fail(b"standard output");
+    host::tell_failure(b"standard output", host::last_failure());
     broken()
 }
 

@@ -141,7 +141,7 @@ module _ (f : Form) (w : ℕ) (s r : List ℕ) where
             inside : v ≤ length r
             inside = subst (Holds (Upto r)) (relocation-is (relocation_line f r 0) (ap told_relocation (sym i) ∙ h)) (relocation-keeps f r 0 (omega arith))
 
-        pub pair-3 : {b ms es xs b' ms' es' xs' : List ℕ} → b' ≡ sets b 0 (bytesIn (contentLine f s 0)) → Rows (fragmentsIn (relocationLine f r 0)) ms es xs ms' es' xs'
+        pub pair-3 : {b ms es xs b' ms' es' xs' : List ℕ} → b' ≡ sets b 0 (bytes_in (content_line f s 0)) → Rows (fragments_in (relocation_line f r 0)) ms es xs ms' es' xs'
             → {p : PairLine} → p ≡ Pair (Placed a n ar k) (w + v) → PairIs (pair_of f w s r) p b ms es xs b' ms' es' xs'
         unfolding pair_of placed_of
         pair-3 {b} l o is-pair =
@@ -170,11 +170,11 @@ module _ (f : Form) (w : ℕ) (s r : List ℕ) where
 pub ruleset pairing = (rules, pair-1, pair-2, pair_fits, pair-3)
 
 -- what is left in what was lent, whatever is answered
-module _ {m : Got the.Content} (f : Form) (s r : List ℕ) {c : ContentLine} {b b' : List ℕ} (e : Contents (wholeContent f s) m b c b') where
+module _ {m : Got the.Content} (f : Form) (s r : List ℕ) {c : ContentLine} {b b' : List ℕ} (e : Contents (whole_content f s) m b c b') where
   pub left-1 : {x p : ℕ} → c ≡ NoContent x p → (ms es xs : List ℕ) → Left m (whole_content f s) (relocation_line f r 0) b ms es xs b' ms es xs
   left-1 {x} {p} g ms es xs = record {
     bytes = e.stored;
-    rows = rw (content-isnt (wholeContent f s) x p (ap toldContent (sym g) ∙ e.answered)) (record { of-modes = refl; of-entries = refl; of-indexes = refl });
+    rows = rw (content-isnt (whole_content f s) x p (ap told_content (sym g) ∙ e.answered)) (record { of-modes = refl; of-entries = refl; of-indexes = refl });
   }
 
   pub left-2 : {a n u : ℕ} → c ≡ Content a n u → {d : RelocationLine} {ms es xs ms' es' xs' : List ℕ} → Relocations (relocation_line f r 0) d ms es xs ms' es' xs'

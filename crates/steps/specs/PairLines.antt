@@ -69,8 +69,8 @@ stored_by (isnt r p) fs = []
 
 -- what reading a pair leaves in what was lent: the bytes of its T line, and if that was used whole the fragments of its R line
 pub record Left (m whole : Got the.Content) (q : Got the.Relocation) (b ms es xs b' ms' es' xs' : List ℕ) : Type 0 where
-  pub bytes : b' ≡ sets b 0 (bytesIn m)
-  pub rows : Rows (storedBy whole (fragmentsIn q)) ms es xs ms' es' xs'
+  pub bytes : b' ≡ sets b 0 (bytes_in m)
+  pub rows : Rows (stored_by whole (fragments_in q)) ms es xs ms' es' xs'
 
 -- the same at a place: nothing where no full line end stands behind the first line
 abbrev pub bytes_at : Form → List ℕ → ℕ → List ℕ
@@ -83,7 +83,7 @@ fragments_at f text p =
 
 pub record LeftAt (f : Form) (text : List ℕ) (p : ℕ) (b ms es xs b' ms' es' xs' : List ℕ) : Type 0 where
   pub bytes : b' ≡ sets b 0 (bytes_at f text p)
-  pub rows : Rows (fragmentsAt f text p) ms es xs ms' es' xs'
+  pub rows : Rows (fragments_at f text p) ms es xs ms' es' xs'
 
 -- what a pair used, from a place on, can be counted
 abbrev pub UsedBounds : ℕ → PairLine → Type 0

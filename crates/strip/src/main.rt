@@ -6,31 +6,36 @@ mod names;
 mod told;
 
 use console::{Input, Request, Room};
+use host::Host;
 use module::Asked;
 use rooms::INPUT_ROOM;
+use std::env::Env;
 
 // Strips the module in the first n bytes of the room.
-fn strip_first(room: &Room, n: usize, asked: Asked) {
-    module::strip_text(sink::first_bytes(room, n), asked)
+fn strip_first(rt: &impl Env, room: &Room, n: usize, asked: Asked) {
+    module::strip_text(rt, sink::first_bytes(room, n), asked)
 }
 
 // Strips the module on standard input.
-fn strip_standard(asked: Asked) {
+fn strip_standard(rt: &impl Host, asked: Asked) {
     let mut room = [0u8; INPUT_ROOM];
-    match console::fill(libc::STDIN_FILENO, &mut room) {
-        Input::Failed => console::tell_reason(b"-"),
-        Input::Text(n) => strip_first(&room, n, asked),
+    match console::fill(&mut rt.reader(), &mut room) {
+        Input::Failed(why) => console::tell_reason(b"-", why),
+        Input::Text(n) => strip_first(rt, &room, n, asked),
     }
 }
 
-fn main() {
-    let count = os::arg_count();
-    match console::asked(count) {
+fn main(rt: HostRuntime) {
+    let count = host::argument_count(&rt);
+    match console::asked(&rt, count) {
         Request::Help => told::help(),
-        Request::Unknown(i) => told::unknown(i),
-        Request::Work(end) => strip_standard(Asked {
-            end: end,
-            count: count,
-        }),
+        Request::Unknown(i) => told::unknown(&rt, i),
+        Request::Work(end) => strip_standard(
+            &rt,
+            Asked {
+                end: end,
+                count: count,
+            },
+        ),
     }
 }

@@ -10,6 +10,7 @@ use pairs_answer::PairsAnswer;
 use rooms::{AREA_ROOM, FIXUP_ROOM, IMAGE_ROOM, SYMBOL_ROOM, TEXT_ROOM};
 use staying_indexes::count_down;
 use staying_rows::keep_rows;
+use std::env::Env;
 use written_answer::Written;
 
 // How many arguments there are, and where the options end.
@@ -31,7 +32,7 @@ fn only_symbols_went(text: &[u8], left: &[u8]) -> bool {
 // Writes what is left, if it reads the same.
 fn hand_over(text: &[u8], left: &[u8]) {
     if only_symbols_went(text, left) {
-        io::write_all(libc::STDOUT_FILENO, left);
+        io::write_all(host::STDOUT_FILENO, left);
         return;
     }
     console::tell_words(b"-", b"the module would not read the same")
@@ -109,6 +110,7 @@ fn strip_marked(
 
 // Strips a module whose tables are at hand.
 fn strip_read(
+    rt: &impl Env,
     text: &[u8],
     asked: Asked,
     counts: Counts,
@@ -117,6 +119,7 @@ fn strip_read(
 ) {
     let mut flags: Flags = [0u8; 1024];
     if names::mark_all(
+        rt,
         text,
         symbols,
         counts.symbols,
@@ -129,7 +132,7 @@ fn strip_read(
 }
 
 // Strips a module.
-pub(crate) fn strip_text(text: &[u8], asked: Asked) {
+pub(crate) fn strip_text(rt: &impl Env, text: &[u8], asked: Asked) {
     let mut areas = [0u32; AREA_ROOM];
     let mut symbols = [0u32; SYMBOL_ROOM];
     let mut values = [0u8; IMAGE_ROOM];
@@ -146,7 +149,7 @@ pub(crate) fn strip_text(text: &[u8], asked: Asked) {
         Answer::Refusal { number, place } => console::tell_number(b"-", number as usize, place),
         Answer::Accepted { counts, verdict } => match verdict {
             Verdict::Stopped { place } => console::tell_place(b"-", place),
-            Verdict::Finished => strip_read(text, asked, counts, &areas, &symbols),
+            Verdict::Finished => strip_read(rt, text, asked, counts, &areas, &symbols),
         },
     }
 }

@@ -3,20 +3,33 @@ use fragment_symbols::referring;
 use kept_symbols::mark;
 use name_index::first_named;
 use rooms::TEXT_ROOM;
+use std::env::Env;
 use symbol_rows::symbol_name;
 
 // A flag for each symbol: 1 if it is to go.
 pub(crate) type Flags = [u8; 1024];
 
 // Marks the symbols that an argument names; one that is not there is told.
-fn mark_argument(text: &[u8], symbols: &[u32], n: usize, i: usize, flags: &mut Flags) -> bool {
+fn mark_argument(
+    rt: &impl Env,
+    text: &[u8],
+    symbols: &[u32],
+    n: usize,
+    i: usize,
+    flags: &mut Flags,
+) -> bool {
     let mut word = [0u8; TEXT_ROOM];
-    let k = os::arg(i, &mut word);
-    if os::errno() != 0 {
-        console::tell_reason(b"the name");
-        return false;
+    match host::argument(rt, i, &mut word) {
+        Ok(k) => mark_named(text, symbols, n, sink::first_bytes(&word, k), flags),
+        Err(why) => {
+            console::tell_reason(b"the name", why);
+            false
+        }
     }
-    let name = sink::first_bytes(&word, k);
+}
+
+// Marks the symbols of a name; that there is none is told.
+fn mark_named(text: &[u8], symbols: &[u32], n: usize, name: &[u8], flags: &mut Flags) -> bool {
     if n <= first_named(name, text, symbols, n, &[0]) {
         console::tell_words(name, b"no such symbol");
         return false;
@@ -27,6 +40,7 @@ fn mark_argument(text: &[u8], symbols: &[u32], n: usize, i: usize, flags: &mut F
 
 // Marks the symbols that the arguments name, of which the one that ends the options names none. Every one that is not there is told.
 pub(crate) fn mark_all(
+    rt: &impl Env,
     text: &[u8],
     symbols: &[u32],
     n: usize,
@@ -37,7 +51,7 @@ pub(crate) fn mark_all(
     let mut all = true;
     let mut i = 1;
     while i < count {
-        if i != end && !mark_argument(text, symbols, n, i, flags) {
+        if i != end && !mark_argument(rt, text, symbols, n, i, flags) {
             all = false;
         }
         i += 1;

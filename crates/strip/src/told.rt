@@ -1,9 +1,10 @@
 // The use and the help.
-use libc::{STDERR_FILENO, STDOUT_FILENO};
+use host::{STDERR_FILENO, STDOUT_FILENO};
+use std::env::Env;
 
 // Tells of an option that is not known, and how the program is called.
-pub(crate) fn unknown(i: usize) {
-    console::tell_option(i);
+pub(crate) fn unknown(rt: &impl Env, i: usize) {
+    console::tell_option(rt, i);
     io::write_all(
         STDERR_FILENO,
         b"usage: strip [--] NAME... < MODULE > STRIPPED\n",

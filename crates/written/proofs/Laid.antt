@@ -93,7 +93,7 @@ module _ (s : Specifier) where
   pairs-named : (at : ℕ) (ps : List NamedPair) → collected taken_pair (laid_pairs s at ps) ≡ ps
   unfolding collected laid_pairs
   pairs-named at [] = refl
-  pairs-named at (p ∷ ps) = ap (λ (qs : List NamedPair). p ∷ qs) (pairs-named _ ps)
+  pairs-named at (p ∷ ps) = ap (λ (qs : List NamedPair). p ∷ qs) (pairs-named (at + (length (line_ended (content_text s p)) + length (line_ended (relocation_text s p)))) ps)
 
   module _ (text : List ℕ) where
     next-line : (at : ℕ) (l more : List ℕ) → drop at text ≡ line_ended l ++ more → drop (at + length (line_ended l)) text ≡ more
@@ -123,9 +123,9 @@ module _ (s : Specifier) where
   unfolding laid_pairs pair_texts flat
   pairs-last at [] = sym (add-zero at)
   pairs-last at (p ∷ ps) =
-      pairs-last _ ps ∙ simp length-append (omega arith)
+      pairs-last (at + (length (line_ended (content_text s p)) + length (line_ended (relocation_text s p)))) ps ∙ simp length-append (omega arith)
 
   pub laid-last : (at : ℕ) (es : List NamedEntry) (ps : List NamedPair) → last_of at (ends (laid s at es ps)) ≡ at + length (flat line_ended (line_texts s es ps))
   unfolding laid line_texts flat ends
   laid-last at [] ps = pairs-last at ps
-  laid-last at (e ∷ es) ps = laid-last _ es ps ∙ simp length-append (omega arith)
+  laid-last at (e ∷ es) ps = laid-last (at + length (line_ended (entry_text s e))) es ps ∙ simp length-append (omega arith)

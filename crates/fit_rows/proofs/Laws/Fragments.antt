@@ -196,7 +196,7 @@ pub ruleset fitting = (rules, fitting-start, fitting-end, fitting-not, fitting-c
 -- ------------------------------------------------------------------ `fit_body`, `fit_bodies`
 
 pub body_is : (pairs rows : List ℕ) (k width : ℕ) {a a' b b' : ℕ} → a ≡ get_or pairs (7 * k + 5) 0 → a' ≡ a → b ≡ get_or pairs (7 * k + 6) 0 → b' ≡ b → {c : Bool}
-    → c ≡ fitFragments (formBy width) (from (fragmentFrom rows) a' b') → c ≡ body_at width pairs rows k
+    → c ≡ fit_fragments (form_by width) (from (fragment_from rows) a' b') → c ≡ body_at width pairs rows k
 unfolding body_at
 body_is pairs rows k width ea ea' eb eb' ec = ec ∙ rw (ea', ea, eb', eb)
 

@@ -2,73 +2,70 @@ use borrow.Author.Rules.{rules}
 use Rattle.name_lines.proofs.line_in.Goals as goal
 
 pub loop-turns-init : goal.loop-turns-init
-loop-turns-init c = search rules
+loop-turns-init g c = search rules
 
 pub next_byte-requires : goal.next_byte-requires
-next_byte-requires c = search rules
+next_byte-requires g c = search rules
 
 pub enum_told-1 : goal.enum_told-1
-enum_told-1 c = search rules
+enum_told-1 g c = search rules
 
 pub shape_of-block-in-Failed : goal.shape_of-block-in-Failed
-shape_of-block-in-Failed c = search rules
+shape_of-block-in-Failed g c = search rules
 
 pub shape_of-name-in-Failed : goal.shape_of-name-in-Failed
-shape_of-name-in-Failed c = search rules
+shape_of-name-in-Failed g c = search rules
 
 pub returns-in-Failed : goal.returns-in-Failed
-returns-in-Failed c = search rules
-
-pub enum_told-in-End : goal.enum_told-in-End
-enum_told-in-End c = search rules
+returns-in-Failed g c = search rules
 
 pub last-requires : goal.last-requires
-last-requires c = search rules
+last-requires g c = search rules
 
 pub shape_of-block-in-End : goal.shape_of-block-in-End
-shape_of-block-in-End c = search rules
+shape_of-block-in-End g c = search rules
 
 pub shape_of-name-in-End : goal.shape_of-name-in-End
-shape_of-name-in-End c = search rules
+shape_of-name-in-End g c = search rules
 
 pub returns-in-End : goal.returns-in-End
-returns-in-End c = search rules
+returns-in-End g c = search rules
 
 pub enum_known-value : goal.enum_known-value
-enum_known-value c = search rules
+enum_known-value g c = search rules
 
 pub line_of-requires : goal.line_of-requires
-line_of-requires c = search rules
+line_of-requires g c = search rules
 
 pub shape_of-block-then-value-eq10 : goal.shape_of-block-then-value-eq10
-shape_of-block-then-value-eq10 c = search rules
+shape_of-block-then-value-eq10 g c = search rules
 
 pub shape_of-name-then-value-eq10 : goal.shape_of-name-then-value-eq10
-shape_of-name-then-value-eq10 c = search rules
+shape_of-name-then-value-eq10 g c = search rules
 
 pub returns-then-value-eq10 : goal.returns-then-value-eq10
-returns-then-value-eq10 c = search rules
+returns-then-value-eq10 g c = search rules
 
 pub put-requires : goal.put-requires
-put-requires c = search rules
+put-requires g c = search rules
 
 pub end_of-n-requires : goal.end_of-n-requires
-end_of-n-requires c = search rules
+end_of-n-requires g c = search rules
 
 pub overflow_sub-turns : goal.overflow_sub-turns
-overflow_sub-turns c = search rules
+overflow_sub-turns g c = search rules
 
 pub loop-turns-smaller : goal.loop-turns-smaller
-loop-turns-smaller c = search rules
+loop-turns-smaller g c = search rules
 
 pub loop-turns-preserved : goal.loop-turns-preserved
-loop-turns-preserved c = search rules
+loop-turns-preserved g c = search rules
 
 pub shape_of-block : goal.shape_of-block
-shape_of-block c = search rules
+shape_of-block g c = search rules
 
 pub shape_of-name : goal.shape_of-name
-shape_of-name c = search rules
+shape_of-name g c = search rules
 
 pub returns : goal.returns
-returns c = search rules
+returns g c = search rules

@@ -11,7 +11,7 @@ pub enum_known-plan-in-Book-1 : goal.enum_known-plan-in-Book-1
 enum_known-plan-in-Book-1 c = search writes
 
 pub write_sorted-requires : goal.write_sorted-requires
-write_sorted-requires c = (plan-room _ _ _ _ _ c.plan_lent-plan.ensures c.plan-in-Book-1.given.1, plan-small _ _ _ _ _ c.plan_lent-plan.ensures c.plan-in-Book-1.given.1)
+write_sorted-requires c = (plan-room _ _ _ _ _ c.plan_lent-plan.ensures c.in-Book.is, plan-small _ _ _ _ _ c.plan_lent-plan.ensures c.in-Book.is)
 
 pub returns-in-Refused : goal.returns-in-Refused
 returns-in-Refused c = search writes

@@ -31,9 +31,6 @@ new-requires c = search writing
 pub returns-then-write_all : goal.returns-then-write_all
 returns-then-write_all c = search writing
 
-pub fail-requires : goal.fail-requires
-fail-requires c = search writing
-
 pub broken-requires-2 : goal.broken-requires-2
 broken-requires-2 c = search writing
 

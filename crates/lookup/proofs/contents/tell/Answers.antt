@@ -1,0 +1,27 @@
+use borrow.Author.Rules.{rules}
+use Prim.Native.Nat.{◌-◌}
+use Rattle.lookup.proofs.contents.tell.Goals as goal
+
+pub new-now-requires : goal.new-now-requires
+new-now-requires c = search rules
+
+pub loop-i-init : goal.loop-i-init
+loop-i-init c = search rules
+
+pub line-now-requires : goal.line-now-requires
+line-now-requires c = search rules
+
+pub overflow_add-i : goal.overflow_add-i
+overflow_add-i c = search rules
+
+pub loop-i-smaller : goal.loop-i-smaller
+loop-i-smaller c = search rules
+
+pub loop-i-preserved : goal.loop-i-preserved
+loop-i-preserved c = search rules
+
+pub flush-requires : goal.flush-requires
+flush-requires c = search rules
+
+pub returns : goal.returns
+returns c = search rules

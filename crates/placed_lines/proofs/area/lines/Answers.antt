@@ -1,0 +1,21 @@
+use borrow.Author.Rules.{rules}
+use Prim.Native.Nat.{◌-◌}
+use Rattle.placed_lines.proofs.area.lines.Goals as goal
+
+pub loop-i-init : goal.loop-i-init
+loop-i-init c = search rules
+
+pub area-now-requires : goal.area-now-requires
+area-now-requires c = search rules
+
+pub overflow_add-i : goal.overflow_add-i
+overflow_add-i c = search rules
+
+pub loop-i-smaller : goal.loop-i-smaller
+loop-i-smaller c = search rules
+
+pub loop-i-preserved : goal.loop-i-preserved
+loop-i-preserved c = search rules
+
+pub returns : goal.returns
+returns c = search rules
