@@ -110,13 +110,7 @@ pub fn probe_entry(t: &[u8], radix: u8, big: bool, width: u8) -> Row
 }
 
 // A T line; its first 256 content bytes are written.
-pub fn probe_content(
-    t: &[u8],
-    radix: u8,
-    big: bool,
-    width: u8,
-    out: &mut [u8; 256],
-) -> Row
+pub fn probe_content(t: &[u8], radix: u8, big: bool, width: u8, out: &mut [u8; 256]) -> Row
     ensures { ContentRow (content_line (form_of (form_from radix big width)) t.now 0) (content_line (form_of (form_from radix big width)) t.now 0) out.old result out.new }
 {
     content_row(pair_line::parse_content(t, form_from(radix, big, width), out))

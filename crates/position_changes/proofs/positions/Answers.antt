@@ -17,7 +17,7 @@ pub returns-then-n-gt536870912 : goal.returns-then-n-gt536870912
 returns-then-n-gt536870912 c = search wholes
 
 pub walk-requires : goal.walk-requires
-walk-requires c = walk-fits _ _ _ _ c.paired_masks.ensures c.if-not-paired_masks.false c.paired_masks-2.ensures c.if-not-paired_masks-2.false c.if-n-gt536870912.false
+walk-requires c = walk-fits _ _ _ _ c.paired_masks.ensures (search wholes) c.paired_masks-2.ensures (search wholes) c.if-n-gt536870912.false
 
 pub shape_of-list : goal.shape_of-list
 shape_of-list c = search wholes
