@@ -1,6 +1,6 @@
 // What the arguments ask for.
 use crate::shelf::{Pool, Rows, Shelf};
-use crate::{book, list, shelf, told};
+use crate::{list, shelf, told, written};
 use console::Operand;
 use host::{Failure, Host};
 use std::env::Env;
