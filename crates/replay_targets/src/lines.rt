@@ -1,7 +1,7 @@
 // One line: what the Rust answered, held against the port's answer.
 ghost use Rattle.std.specs.Prelude.{◌≤◌};
 
-use crate::hexadecimal::{at, byte, four, number, short};
+use crate::hex::{at, byte, four, number, short};
 use mode::{Jump, JumpType};
 use mode_step::Step;
 use target_asked::Answer;
