@@ -1,6 +1,6 @@
 // What the arguments ask for.
 use crate::shelf::{Pool, Rows, Shelf};
-use crate::{book, list, shelf, told};
+use crate::{list, shelf, told, written};
 use console::Operand;
 use host::{Failure, Host};
 use std::env::Env;
@@ -134,10 +134,10 @@ fn work(rt: &impl Host, pool: &mut [u8], rows: &mut [u32], asked: Job, count: us
     let empty = shelf::new(asked.fixups);
     if count <= first {
         let s = list::standard(rt, pool, rows, empty);
-        book::write(pool, rows, s, skip);
+        written::write(pool, rows, s, skip);
     } else {
         let s = operands(rt, pool, rows, empty, first, asked.end, count);
-        book::write(pool, rows, s, skip);
+        written::write(pool, rows, s, skip);
     }
 }
 

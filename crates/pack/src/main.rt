@@ -2,13 +2,13 @@
 #![tactic(auto)]
 
 mod arguments;
-mod book;
 mod list;
 mod module;
 mod name;
 mod shelf;
 mod told;
 mod whole;
+mod written;
 
 fn main(rt: HostRuntime) {
     let mut pool = shelf::empty_pool();

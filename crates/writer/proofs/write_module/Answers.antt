@@ -19,4 +19,4 @@ shape_of-out c = search modules
 pub returns : goal.returns
 returns c =
     let f = c.args.form in
-    good-writes f.radix f.big f.width _ c.shared_slice_known-2-1.given c.shared_slice_known-3-1.given c.shared_slice_known-5-1.given c.rows_good.ensures c.if-not-rows_good.false c.write_with.ensures
+    good-writes f.radix f.big f.width _ c.type_inv.areas c.type_inv.symbols c.type_inv.content c.rows_good.ensures (search modules) c.write_with.ensures

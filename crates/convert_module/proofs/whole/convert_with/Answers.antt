@@ -11,7 +11,7 @@ pub enum_known-counts : goal.enum_known-counts
 enum_known-counts c = search wholes
 
 pub judge-requires : goal.judge-requires
-judge-requires c = convert-judged c.requires c.read_any.ensures c.counts-1.given.1
+judge-requires c = convert-judged c.requires c.read_any.ensures c.in-Accepted.is
 
 pub shape_of-areas-in-Refusal : goal.shape_of-areas-in-Refusal
 shape_of-areas-in-Refusal c = search wholes

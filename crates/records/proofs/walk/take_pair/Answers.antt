@@ -39,4 +39,4 @@ pub shape_of-fragments : goal.shape_of-fragments
 shape_of-fragments c = search turning
 
 pub returns : goal.returns
-returns c = (turn-stores c.requires.0 c.Pair-step.ensures.0 c.step-1.given.1 c.body-1.given.1 c.requires.2 c.requires.1 c.store_here-walked.ensures, columns-then _ _ _ c.requires.2 c.Pair-step.ensures.1)
+returns c = (turn-stores c.requires.0 c.pair_step-step.ensures.pair_step_is c.in-Takes.is c.in-Placed.is c.requires.2 c.requires.1 c.store_here-walked.ensures, columns-then _ _ _ c.requires.2 c.pair_step-step.ensures.left_at)
