@@ -1,4 +1,3 @@
-use Rattle.replay_convert.proofs.Laws.{loops}
 use Prim.Native.Nat.{◌-◌, ◌≤◌}
 use Rattle.replay_convert.proofs.show_all.Given as goal
 

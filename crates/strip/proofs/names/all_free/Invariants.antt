@@ -1,4 +1,3 @@
-use Rattle.strip.proofs.Laws.{loops}
 use Prim.Native.Nat.{◌-◌, ◌≤◌}
 use Rattle.strip.proofs.names.all_free.Given as goal
 
