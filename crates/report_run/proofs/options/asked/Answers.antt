@@ -1,5 +1,5 @@
 use Rattle.std.proofs.Common.{◌-◌, rules}
-use Rattle.report.proofs.options.asked.Goals as goal
+use Rattle.report_run.proofs.options.asked.Goals as goal
 
 pub loop-i-init : goal.loop-i-init
 loop-i-init g c = search rules

@@ -1,5 +1,5 @@
 use Rattle.std.proofs.Common.{rules}
-use Rattle.report.proofs.names.all.Goals as goal
+use Rattle.report_run.proofs.names.all.Goals as goal
 
 pub loop-turns-init : goal.loop-turns-init
 loop-turns-init g c = search rules
