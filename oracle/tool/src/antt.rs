@@ -43,7 +43,7 @@ fn part(bytes: &[u8]) -> String {
     }
     let quoted: String =
         bytes.iter().flat_map(|byte| byte.escape_ascii()).map(char::from).collect();
-    format!("bytesOf \"{}\"", quoted.replace("\\'", "'"))
+    format!("bytes_of \"{}\"", quoted.replace("\\'", "'"))
 }
 
 /// A text as a list of numbers.
@@ -57,17 +57,14 @@ pub fn text(bytes: &[u8]) -> String {
 }
 
 /// What every file of statements uses.
-const USES: &str = "use Prim.Native.Nat.{ℕ}
-use mathlib.Core.Path.{_≡_, refl}
-use mathlib.Core.Bool.{true, false}
-use mathlib.Core.List.{List, [], _∷_, _++_, map}
-use Rattle·format.specs.Number.{number, byte}
-use Rattle·format.specs.Pairs.{modeOf}
-use Rattle·format.specs.Mode.{classNumberOf, touched, onSite}
-use Rattle·format.specs.ModeStep.{stepValues, stepMasks, stepKeeps, stepNumber}
-use Rattle·format.specs.Target.{target}
-use Rattle·format.specs.Text.{bytesOf}
-use Rattle·format.specs.Evaluate.{evaluate}
+const USES: &str = "use Rattle.std.specs.Prelude.{ℕ, ◌≡◌, refl, true, false, List, [], ◌∷◌, ◌++◌, map}
+use Rattle.format.specs.Number.{number, byte}
+use Rattle.format.specs.Pairs.{mode_of}
+use Rattle.format.specs.Mode.{class_number_of, touched, on_site}
+use Rattle.format.specs.ModeStep.{step_values, step_masks, step_keeps_of, step_number}
+use Rattle.format.specs.Target.{target}
+use Rattle.format.specs.Text.{bytes_of}
+use Rattle.format.specs.Evaluate.{evaluate}
 ";
 
 /// A file of statements; the crate's name is where its helpers stand.
@@ -75,11 +72,11 @@ pub fn file(crate_name: &str, statements: &[Statement]) -> String {
     let mut out = String::from(USES);
     let helpers = "rows whole outcome taken";
     let listed = helpers.replace(' ', ", ");
-    let _ = writeln!(out, "use Rattle·{crate_name}·specs.specs.Given.{{{listed}}}");
+    let _ = writeln!(out, "use Rattle.{crate_name}.specs.Given.{{{listed}}}");
     for Statement { name, computed, answered } in statements {
         let answered = rows(answered);
         let _ = write!(out, "\npub {name} : {computed} ≡ {answered}\n");
-        let _ = write!(out, "unfolding evaluate bytesOf {helpers}\n{name} = refl\n");
+        let _ = write!(out, "unfolding evaluate bytes_of {helpers}\n{name} = refl\n");
     }
     out
 }

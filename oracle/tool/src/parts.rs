@@ -38,7 +38,7 @@ fn modes() -> Statement {
     Statement {
         name: "modes".into(),
         computed: format!(
-            "(map classNumberOf {list} ∷ map touched {list} ∷ map onSite {list} ∷ [])"
+            "(map class_number_of {list} ∷ map touched {list} ∷ map on_site {list} ∷ [])"
         ),
         answered: vec![
             each(|mode| class_number(class(mode).expect("a mode"))),
@@ -67,7 +67,7 @@ fn step(random: &mut Random, name: String) -> Statement {
     let mut answered = vec![vec![number as u64]];
     answered.extend(COLUMNS.map(|of| after.iter().map(of).collect()));
     let computed = format!(
-        "((stepNumber {} {mode} {values} ∷ []) ∷ stepValues {mode} {values} ∷ stepMasks {mode} {masks} ∷ stepKeeps {mode} {keeps} ∷ [])",
+        "((step_number {} {mode} {values} ∷ []) ∷ step_values {mode} {values} ∷ step_masks {mode} {masks} ∷ step_keeps_of {mode} {keeps} ∷ [])",
         truth(big)
     );
     Statement { name, computed, answered }
@@ -134,7 +134,7 @@ fn words(radix: Radix, base: u32) -> Statement {
         let byte = readers::parse_byte(format, word).map(|(value, used)| (value.into(), used));
         let mode = readers::parse_extended_mode(format, word);
         let mode = mode.map(|(value, used)| (value.into(), used));
-        for (reader, answer) in [("number", number), ("byte", byte), ("modeOf", mode)] {
+        for (reader, answer) in [("number", number), ("byte", byte), ("mode_of", mode)] {
             calls.push(format!("taken ({reader} {base} {} 0)", text(word.as_bytes())));
             answered.push(answer.map_or(vec![0], |(value, used)| vec![1, value, used as u64]));
         }

@@ -30,7 +30,7 @@ pub shape_of-rows-in_default : goal.shape_of-rows-in_default
 shape_of-rows-in_default c = search rounds
 
 pub returns-in_default : goal.returns-in_default
-returns-in_default c = round-done c.loop-going.invariant.0 c.take_turn-u.ensures.0 c.take_turn-u.ensures.2 c.enum_told-1.given.1 c.two_of.ensures
+returns-in_default c = round-done c.loop-going.invariant.0 c.take_turn-u.ensures.0 c.take_turn-u.ensures.2 c.in_default.is c.two_of.ensures
 
 pub loop-going-smaller : goal.loop-going-smaller
 loop-going-smaller c = search rounds

@@ -25,7 +25,7 @@ pub shape_of-ms-in_default : goal.shape_of-ms-in_default
 shape_of-ms-in_default c = search rests
 
 pub returns-in_default : goal.returns-in_default
-returns-in_default c = rest-refused c.args.found c.requires.0 c.starting-start.ensures c.requires.2 c.requires.3 c.second_over-two.ensures.second_is c.enum_told-1.given.1 c.refuse_two.ensures _
+returns-in_default c = rest-refused c.args.found c.requires.0 c.starting-start.ensures c.requires.2 c.requires.3 c.second_over-two.ensures.second_is c.in_default.is c.refuse_two.ensures _
 
 pub counts_of-counts-requires : goal.counts_of-counts-requires
 counts_of-counts-requires c = search rests
@@ -41,12 +41,12 @@ accept-requires c = search rests
 
 pub shape_of-vs : goal.shape_of-vs
 shape_of-vs c =
-    let k = c.second_over-two.auto.1.1.1.1.1.1.0 in
+    let k = c.second_over-two.auto.values in
     search (rules, k)
 
 pub shape_of-ms : goal.shape_of-ms
 shape_of-ms c =
-    let k = c.second_over-two.auto.1.1.1.1.1.1.1.0 in
+    let k = c.second_over-two.auto.masks in
     search (rules, k)
 
 pub shape_of-areas : goal.shape_of-areas
@@ -65,4 +65,4 @@ pub shape_of-fixups : goal.shape_of-fixups
 shape_of-fixups c = search rests
 
 pub returns : goal.returns
-returns c = rest-done c.args.found c.requires.0 c.starting-start.ensures c.requires.2 c.requires.3 c.second_over-two.ensures.second_is c.two-1.given.1 c.Counts-of.ensures c.requires.1 c.second_over-two.ensures.rows_len_unchanged zeros-9216 c.lay_tables.ensures c.lay_images.ensures c.accept.ensures
+returns c = rest-done c.args.found c.requires.0 c.starting-start.ensures c.requires.2 c.requires.3 c.second_over-two.ensures.second_is c.in-All.is c.counts_of-counts.ensures c.requires.1 c.second_over-two.ensures.rows_len_unchanged zeros-9216 c.lay_tables.ensures c.lay_images.ensures c.accept.ensures

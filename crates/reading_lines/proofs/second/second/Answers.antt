@@ -41,5 +41,4 @@ shape_of-rows c = search seconds
 
 pub returns : goal.returns
 returns c =
-    let kept = c.group_two.auto.1.1.1.1.1.1 in
-    second-some _ _ _ c.requires.0 c.if-not-g.false _ _ c.requires.3 c.requires.4 c.group_two.ensures.0 c.group_two.ensures.1 kept.0 kept.1.0
+    second-some _ _ _ c.requires.0 c.if-not-g.false _ _ c.requires.3 c.requires.4 c.group_two.ensures.0 c.group_two.ensures.1 c.group_two.auto.values c.group_two.auto.masks

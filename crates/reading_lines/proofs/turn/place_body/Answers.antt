@@ -28,7 +28,7 @@ pub after-requires-in_default : goal.after-requires-in_default
 after-requires-in_default c = search bodies
 
 pub returns-in_default : goal.returns-in_default
-returns-in_default c = body_kept c.requires _ _ _ _ _ _ c.enum_told-1.given.1 c.standing_in-in_default.ensures c.after-in_default.ensures
+returns-in_default c = body_kept c.requires _ _ _ _ _ _ c.in_default.is c.standing_in-in_default.ensures c.after-in_default.ensures
 
 pub known_bits-requires : goal.known_bits-requires
 known_bits-requires c = search bodies
@@ -68,5 +68,5 @@ shape_of-rows c = search bodies
 
 pub returns : goal.returns
 returns c =
-    body-made c.requires _ _ _ _ _ _ c.s-1.given.1 c.known_bits.ensures c.Filled-of.ensures c.home_for-home.ensures c.place_pair-r.ensures (λ j. omega (arith, c.slice_known-6-1.given j)) c.keep_known.ensures
+    body-made c.requires _ _ _ _ _ _ c.in-Made.is c.known_bits.ensures c.filled_of-filled.ensures c.home_for-home.ensures c.place_pair-r.ensures (λ j. omega (arith, c.slice_known-6-1.given j)) c.keep_known.ensures
     c.standing_of.ensures c.standing_in-2.ensures c.after-2.ensures

@@ -19,10 +19,10 @@ pub turn_of-requires : goal.turn_of-requires
 turn_of-requires c = search turns
 
 pub returns-in_default : goal.returns-in_default
-returns-in_default c = (search turns, search lending, carried-leave c.args.form _ _ c.Pair-step.result c.args.g c.plan_of-plan.ensures c.enum_told-1.given.1 c.turn_of.ensures)
+returns-in_default c = (search turns, search lending, carried-leave c.args.form _ _ c.pair_step-step.result c.args.g c.plan_of-plan.ensures c.in_default.is c.turn_of.ensures)
 
 pub place_body-requires : goal.place_body-requires
-place_body-requires c = turn-ready c.args.form c.requires.0 c.Pair-step.ensures.0 c.plan_of-plan.ensures c.plan-1.given.1 c.requires.3 (ready-low c.requires.0 c.requires.1) c.requires.2
+place_body-requires c = turn-ready c.args.form c.requires.0 c.pair_step-step.ensures.pair_step_is c.plan_of-plan.ensures c.in-Place.is c.requires.3 (ready-low c.requires.0 c.requires.1) c.requires.2
 
 pub shape_of-areas : goal.shape_of-areas
 shape_of-areas c = search turns
@@ -39,7 +39,7 @@ shape_of-rows c = search turns
 pub returns : goal.returns
 returns c =
     let low = ready-low c.requires.0 c.requires.1 in (
-      turn-places c.args.form c.requires.0 c.Pair-step.ensures.0 c.plan_of-plan.ensures c.plan-1.given.1 c.requires.3 low _ c.place_body.ensures.0,
-      columns-then _ _ _ c.requires.3 c.Pair-step.ensures.1,
-      turn-carries c.args.form c.requires.0 c.Pair-step.ensures.0 c.plan_of-plan.ensures c.plan-1.given.1 c.requires.3 low c.place_body.ensures.1,
+      turn-places c.args.form c.requires.0 c.pair_step-step.ensures.pair_step_is c.plan_of-plan.ensures c.in-Place.is c.requires.3 low _ c.place_body.ensures.0,
+      columns-then _ _ _ c.requires.3 c.pair_step-step.ensures.left_at,
+      turn-carries c.args.form c.requires.0 c.pair_step-step.ensures.pair_step_is c.plan_of-plan.ensures c.in-Place.is c.requires.3 low c.place_body.ensures.1,
     )
