@@ -59,13 +59,7 @@ fn empty_room() -> Room {
 }
 
 // The text that a reader gives.
-fn input(
-    reader: &mut impl Read,
-    s: Sink,
-    out: &mut Buffer,
-    t: Totals,
-    name: &[u8],
-) -> Tally {
+fn input(reader: &mut impl Read, s: Sink, out: &mut Buffer, t: Totals, name: &[u8]) -> Tally {
     let mut room = empty_room();
     match console::fill(reader, &mut room) {
         Input::Failed(why) => unread(s, out, t, name, why),
