@@ -1,4 +1,5 @@
-use Rattle.coverage.proofs.PairLaws.{by_rows}
+use mathlib.Core.Path.{refl}
+use Rattle.coverage.proofs.PairLaws.{by_rows, rows-marked}
 use Rattle.coverage.proofs.pair.by_rows.Goals as goal
 
 pub columns_at-requires : goal.columns_at-requires
@@ -11,4 +12,4 @@ pub shape_of-map : goal.shape_of-map
 shape_of-map c = search by_rows
 
 pub returns : goal.returns
-returns c = search by_rows
+returns c = rows-marked c.args.line c.args.home c.args.bs.now c.args.fragments.now c.args.row c.args.map.now refl refl refl c.columns_at.ensures c.by_columns.ensures
