@@ -1,8 +1,6 @@
 // Tells what changed between two object modules: changes OLDER NEWER.
 #![tactic(auto)]
 
-mod lines;
-mod rows;
 mod told;
 
 use console::{Input, Request, Room};
@@ -12,7 +10,7 @@ use rooms::INPUT_ROOM;
 // Compares the first bytes of two rooms.
 fn compare<'a>(older: &'a Room, n: usize, newer: &'a Room, m: usize) {
     let mut out = io::large_buffer();
-    lines::tell(
+    changes_told::tell(
         &mut out,
         sink::first_bytes(older, n),
         sink::first_bytes(newer, m),

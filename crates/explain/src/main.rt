@@ -1,7 +1,6 @@
 // Tells of one position of a kept area which line wrote it last, and what: explain [--lines] ID POSITION [FILE].
 #![tactic(auto)]
 
-mod module;
 mod source;
 mod told;
 

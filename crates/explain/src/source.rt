@@ -1,5 +1,4 @@
 // Where the module comes from: standard input, which is called `-`, or a file by its name.
-use crate::module;
 use console::{Input, Room};
 use host::{Failure, Host};
 use position_lines::Asked;
@@ -9,7 +8,7 @@ use std::io::Read;
 
 // Explains a position of the first n bytes of the room.
 fn explain_first(out: &mut Buffer, room: &Room, n: usize, name: &[u8], asked: Asked) {
-    module::tell(out, sink::first_bytes(room, n), name, asked)
+    position_lines::tell(out, sink::first_bytes(room, n), name, asked)
 }
 
 // Explains a position of the module that a reader gives.

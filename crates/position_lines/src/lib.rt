@@ -4,7 +4,7 @@
 use answer::Counts;
 use ended_answer::Answer;
 use position_answer::Explained;
-use rooms::{AREA_ROOM, SYMBOL_ROOM};
+use rooms::{AREA_ROOM, FIXUP_ROOM, IMAGE_ROOM, SYMBOL_ROOM};
 use sink::{Buffer, Sink};
 
 // An area's id and a position in it, and whether the lines are asked for.
@@ -80,7 +80,7 @@ fn lines(
 }
 
 // What was found in a text that the ended reading gave this answer for. Where the module is not whole, the position was explained from a part of it only.
-pub fn tell(
+fn told(
     s: Sink,
     out: &mut Buffer,
     text: &[u8],
@@ -106,4 +106,32 @@ pub fn tell(
             verdict_words::tell_unless_whole(s2, out, name, verdict, counted)
         }
     }
+}
+
+// The ended reading of a text, for its verdict, its areas and its symbols.
+fn read(text: &[u8], areas: &mut [u32; AREA_ROOM], symbols: &mut [u32; SYMBOL_ROOM]) -> Answer {
+    let mut values = [0u8; IMAGE_ROOM];
+    let mut masks = [0u8; IMAGE_ROOM];
+    let mut fixups = [0u32; FIXUP_ROOM];
+    ended::read_ended(text, areas, symbols, &mut values, &mut masks, &mut fixups)
+}
+
+// Tells who wrote a position of a text's kept area last.
+pub fn tell(out: &mut Buffer, text: &[u8], name: &[u8], asked: Asked) {
+    let mut areas = [0u32; AREA_ROOM];
+    let mut symbols = [0u32; SYMBOL_ROOM];
+    let answer = read(text, &mut areas, &mut symbols);
+    let e = one_position::explain(text, asked.id, asked.position);
+    let s = told(
+        sink::new(),
+        out,
+        text,
+        name,
+        asked,
+        e,
+        answer,
+        &areas,
+        &symbols,
+    );
+    sink::flush(s, out);
 }

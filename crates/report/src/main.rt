@@ -1,12 +1,6 @@
-// Reports on the modules of a library: names from standard input, one a line; a line or a row of a page for each module, and the totals.
+// Reports on the modules of a library.
 #![tactic(auto)]
 
-mod file;
-mod help;
-mod module;
-mod names;
-mod options;
-
 fn main(rt: HostRuntime) {
-    options::run(&rt)
+    report_run::run(&rt)
 }

@@ -1,6 +1,18 @@
 // The lines of a report: one for each module, and the totals.
 #![tactic(auto)]
 
+mod file;
+mod module;
 mod words;
 
+pub use file::report_file;
+use sink::Sink;
+use totals::Totals;
 pub use words::{over, read_line, refused_line, totals_lines};
+
+// What waits to be written, and the totals so far.
+#[derive(Clone, Copy)]
+pub struct Tally {
+    pub sink: Sink,
+    pub totals: Totals,
+}

@@ -1,7 +1,10 @@
 // What changed between two texts, told in lines: one a row of the list, in the list's order; or a refusal.
-use crate::rows;
-use crate::rows::List;
+#![tactic(auto)]
+
+mod rows;
+
 use change_answer::Told;
+use rows::List;
 use sink::{Buffer, Sink};
 
 // A refusal, which is told on standard error as well: of a side, or of both under the program's name.
@@ -45,7 +48,7 @@ fn compare(older: &[u8], newer: &[u8], list: &mut List) -> Told {
 }
 
 // Tells what changed between an older and a newer text.
-pub(crate) fn tell<'a>(out: &mut Buffer, older: &'a [u8], newer: &'a [u8]) {
+pub fn tell<'a>(out: &mut Buffer, older: &'a [u8], newer: &'a [u8]) {
     let mut list = [0u32; 1081856];
     let t = compare(older, newer, &mut list);
     let s = told(sink::new(), out, t, &list, older, newer);

@@ -1,7 +1,7 @@
 // The names, one after the other.
-use crate::file::{Tally, told};
 use host::{Failure, Host};
 use name_lines::{Block, Cursor, Line, Name};
+use report_lines::Tally;
 use sink::{Buffer, Sink};
 use std::io::Read;
 use totals::Totals;
@@ -21,6 +21,22 @@ struct Going {
 enum Turn {
     On(Going),
     Done(Tally),
+}
+
+// What is written of one file: a line, or a row of the page.
+fn told(
+    rt: &impl Host,
+    page: bool,
+    s: Sink,
+    out: &mut Buffer,
+    t: Totals,
+    file: &[u8],
+    shown: &[u8],
+) -> Tally {
+    if page {
+        return page_file::page_file(rt, s, out, t, file, shown);
+    }
+    report_lines::report_file(rt, s, out, t, file, shown)
 }
 
 // One name more, shown under its own or another one, unless there are too many.

@@ -1,4 +1,4 @@
-// What the report says of one module's text.
+// What the page says of one module's text.
 use answer::Counts;
 use counts_of::Counted;
 use coverage::Covered;

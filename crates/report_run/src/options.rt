@@ -104,7 +104,7 @@ fn written(s: Sink, out: &Buffer) {
 }
 
 // The whole program.
-pub(crate) fn run(rt: &impl Host) {
+pub fn run(rt: &impl Host) {
     let mut out = io::large_buffer();
     match asked(rt, host::argument_count(rt)) {
         Request::Work { pairs, page } => work_as(rt, &mut out, pairs, page),
