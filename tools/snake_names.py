@@ -38,7 +38,7 @@ def is_camel(word):
 
 def pieces(text, comment):
     """The text in pieces, each with whether names in it are to be renamed: strings, byte and character literals stay."""
-    literal = re.compile(r'b?"(?:\\.|[^"\\])*"|b\'(?:\\.|[^\'\\])\'' + (r"|//[^\n]*" if comment else ""))
+    literal = re.compile(r'b?"(?:\\.|[^"\\])*"|b\'(?:\\.|[^\'\\])\'' + (r"|//[^\n]*" if comment else ""), re.S)
     at = 0
     for m in literal.finditer(text):
         yield text[at:m.start()], True

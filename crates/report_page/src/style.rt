@@ -61,10 +61,10 @@ fn patterns(s: Sink, out: &mut Buffer) -> Sink {
         s,
         out,
         b"<svg style='position: absolute; width: 0; height: 0; outline: 0'><defs>\n\
-          <pattern id='k' width='4' height='4' pattern_units='userSpaceOnUse'><rect width='4' height='4' fill='#1f4e79'/></pattern>\n\
-          <pattern id='p' width='6' height='6' pattern_units='userSpaceOnUse'><rect width='6' height='6' fill='#ffe2b8'/><path d='M-1 1l2-2M0 6l6-6M5 7l2-2' stroke='#a04000' stroke-width='1.5'/></pattern>\n\
-          <pattern id='r' width='5' height='5' pattern_units='userSpaceOnUse'><rect width='5' height='5' fill='#e2f3e2'/><circle cx='2.5' cy='2.5' r='1.2' fill='#1b6b2f'/></pattern>\n\
-          <pattern id='u' width='12' height='13' pattern_units='userSpaceOnUse'><rect width='12' height='13' fill='#fff'/><path d='M6 3v6' stroke='#b00020'/></pattern>\n\
+          <pattern id='k' width='4' height='4' patternUnits='userSpaceOnUse'><rect width='4' height='4' fill='#1f4e79'/></pattern>\n\
+          <pattern id='p' width='6' height='6' patternUnits='userSpaceOnUse'><rect width='6' height='6' fill='#ffe2b8'/><path d='M-1 1l2-2M0 6l6-6M5 7l2-2' stroke='#a04000' stroke-width='1.5'/></pattern>\n\
+          <pattern id='r' width='5' height='5' patternUnits='userSpaceOnUse'><rect width='5' height='5' fill='#e2f3e2'/><circle cx='2.5' cy='2.5' r='1.2' fill='#1b6b2f'/></pattern>\n\
+          <pattern id='u' width='12' height='13' patternUnits='userSpaceOnUse'><rect width='12' height='13' fill='#fff'/><path d='M6 3v6' stroke='#b00020'/></pattern>\n\
           </defs></svg>\n",
     )
 }
