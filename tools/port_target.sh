@@ -11,7 +11,7 @@ done
 mv "$work/crates/target" "$work/crates/zzt"
 find "$work/crates" -type f -exec sed -i 's/·target·/·zzt·/g; s/·target\./·zzt./g' {} +
 grep -E '^(target|format|mode|class_rows|target_parts|target_asked|target_words|joining|laws):' "$older/crates.txt" | sed 's/^target:/zzt:/' >"$work/crates.txt"
-(cd "$work" && git init -q . && git add -A && git -c user.name=port -c user.email=port@localhost commit -qm before && python3 /opt/rattle/port/port.py)
+(cd "$work" && git init -q . && git add -A && git -c user.name=port -c user.email= commit -qm before && python3 "$(dirname "$(rt doc)")/port/port.py")
 for folder in src specs proofs; do
     rm -rf "crates/target/$folder"
     cp -r "$work/crates/zzt/$folder" "crates/target/$folder"
