@@ -18,13 +18,11 @@ pub(crate) fn tell_area(id: usize, words: &[u8]) {
 // Whether each kept area has an address; each that has none is told.
 pub(crate) fn areas_have(kept: usize, flags: &Flags) -> bool {
     let mut all = true;
-    let mut id = 0;
-    while id < kept {
+    for id in 0..kept {
         if cells::byte_at(flags, id) == 0 {
             tell_area(id, b"no address");
             all = false;
         }
-        id += 1;
     }
     all
 }
@@ -32,13 +30,11 @@ pub(crate) fn areas_have(kept: usize, flags: &Flags) -> bool {
 // Whether each outside symbol has an address; each that has none is told.
 pub(crate) fn symbols_have(text: &[u8], symbols: &[u32], n: usize, flags: &Flags) -> bool {
     let mut all = true;
-    let mut j = 0;
-    while j < n {
+    for j in 0..n {
         if is_ref(symbols, j) && cells::byte_at(flags, symbol_place(j)) == 0 {
             console::tell_words(symbol_name(text, symbols, j), b"no address");
             all = false;
         }
-        j += 1;
     }
     all
 }

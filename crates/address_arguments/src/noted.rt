@@ -32,13 +32,11 @@ fn note_named(
     flags: &mut Flags,
 ) -> bool {
     let mut found = false;
-    let mut j = 0;
-    while j < n {
+    for j in 0..n {
         if same_name(name, symbol_name(text, symbols, j)) {
             note(addresses, flags, symbol_place(j), address);
             found = found || is_ref(symbols, j);
         }
-        j += 1;
     }
     found
 }
@@ -121,12 +119,10 @@ fn note_all(
     flags: &mut Flags,
 ) -> bool {
     let mut all = true;
-    let mut i = first;
-    while i < count {
+    for i in (first..count).step_by(3) {
         if !note_given(rt, text, symbols, n, kept, i, count, addresses, flags) {
             all = false;
         }
-        i = sink::end_of(i, 3, count);
     }
     all
 }

@@ -5,19 +5,13 @@ use mathlib.Core.Path.{◌≡◌, refl, ◌∙◌}
 use mathlib.Core.Bool.{true}
 use mathlib.Core.List.{List}
 use native.Mathlib.Omega.{arith}
-use borrow.Author.Rules.{rules}
 use Rattle.format.specs.Outcome.{Outcome, fine, refused}
 use Rattle.format.specs.Reading as paper
 use Rattle.format.specs.Reading.{read}
 use Rattle.any_radix.specs.ReadAny.{read_any}
-use Rattle.answer.specs.Answer.{told}
-use Rattle.answer.specs.declared.Answer.{Answer}
-use Rattle.answer.specs.declared.Answer.TheVariants.{Accepted, Refusal}
-use Rattle.answer.specs.declared.Counts.{Counts}
-use Rattle.answer.specs.declared.Verdict.{Verdict}
+use Rattle.answer.specs.Answer.{Answer}
 use Rattle.record_rows.specs.ReadPairs.{roomy}
 use Rattle.admission.specs.Admits.{Passes, PassesAny, gate_of}
-use Rattle.admission.specs.declared.Gate.TheVariants.{Open, Shut}
 
 was-refused : (text : List ℕ) (o : Outcome paper.Read) (n p : ℕ) → paper.refusal n p ≡ (paper.reading_of text o).answer → o ≡ refused n p
 was-refused text (fine r) n p e = absurd (let z : ◌≡◌ {A = ℕ} 0 1 = cc in omega arith)
@@ -26,17 +20,6 @@ was-refused text (refused m q) n p e = let i : n ≡ m = cc in let j : p ≡ q =
 was-fine : (text : List ℕ) (o : Outcome paper.Read) (c : paper.Counts) (v : _) → paper.accepted c v ≡ (paper.reading_of text o).answer → (r : paper.Read) × (o ≡ fine r)
 was-fine text (fine r) c v e = (r, refl)
 was-fine text (refused m q) c v e = absurd (let z : ◌≡◌ {A = ℕ} 0 1 = cc in omega arith)
-
--- `answered`
-pub gate-shut : {a : Answer} {n p : ℕ} → a ≡ Refusal n p → Shut n p ≡ gate_of (told a)
-unfolding gate_of
-gate-shut e = rw e
-
-pub gate-open : {a : Answer} {c : Counts} {v : Verdict} → a ≡ Accepted c v → Open ≡ gate_of (told a)
-unfolding gate_of
-gate-open e = rw e
-
-pub ruleset gates = (rules, gate-shut, gate-open)
 
 -- what the definition says where a gate is what the answer says
 pub passes : (text : List ℕ) (o : Outcome paper.Read) (t : paper.Answer) → read true roomy text ≡ o → t ≡ (paper.reading_of text o).answer → Passes text (gate_of t)

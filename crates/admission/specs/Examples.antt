@@ -1,12 +1,11 @@
 -- A text whose header is D: a gate by the reading that takes every radix is open to it.
 -- Assumes nothing.
-use Rattle.std.specs.Prelude.{refl}
+use Rattle.std.specs.Prelude.{Ok, refl}
 use Rattle.format.specs.Text.{bytes_of}
 use Rattle.format.specs.Evaluate.{evaluate}
 use Rattle.any_radix.specs.ReadAny.{read_any}
 use Rattle.admission.specs.Admits.{PassesAny}
-use Rattle.admission.specs.declared.Gate.TheVariants.{Open}
 
-pub old-stock-passes : PassesAny (bytes_of "DL2\n") Open
+pub old-stock-passes : PassesAny (bytes_of "DL2\n") (Ok tt)
 unfolding evaluate bytes_of read_any
 old-stock-passes = record { as_read = _; is = refl }

@@ -5,27 +5,15 @@ ghost use Rattle.std.specs.Prelude.{◌≡◌};
 ghost use Rattle.answer.specs.Answer.{told};
 ghost use Rattle.admission.specs.Admits.{gate_of};
 
-use answer::Answer;
+use answer::{Answer, Refusal};
 
-// A text that is read, or its refusal.
-#[derive(Clone, Copy)]
-pub enum Gate {
-    Open,
-    Shut { number: u32, place: usize },
-}
+// Whether a text is read, else its refusal.
+pub type Gate = Result<(), Refusal>;
 
 // What an answer says of it.
 pub fn answered(answer: Answer) -> Gate
     ensures { result ≡ gate_of (told answer) }
 {
-    match answer {
-        Answer::Refusal { number, place } => Gate::Shut {
-            number: number,
-            place: place,
-        },
-        Answer::Accepted {
-            counts: _,
-            verdict: _,
-        } => Gate::Open,
-    }
+    answer?;
+    Ok(())
 }

@@ -13,8 +13,7 @@ use Rattle.answer.specs.Answer.{held}
 use Rattle.record_rows.specs.ReadPairs.{roomy}
 use Rattle.record_rows.proofs.Roomy.{whichever-buffers}
 use Rattle.any_radix.proofs.Bounds.{whichever-buffers-of-any-radix}
-use Rattle.admission.specs.Admits.{GateIs, GateIsAny, gate_of}
-use Rattle.admission.specs.declared.Gate.{Gate}
+use Rattle.admission.specs.Admits.{Gate, GateIs, GateIsAny, gate_of}
 use Rattle.admission.proofs.Laws.{passes, passes-any}
 use Rattle.admits.specs.Room.{LentRoom}
 

@@ -7,6 +7,7 @@ use mathlib.Core.List.{List, [], ◌∷◌, ◌++◌}
 use native.Mathlib.Omega.{arith}
 use lib.ListN.{length, get_or}
 use lib.Dec.{eqb}
+use lib.Pointwise.{pointwise}
 use borrow.Author.Rules.{rules}
 use borrow.Author.Tests.{eq-eqb, ne_eqb}
 use Rattle.format.specs.Lists.{pick}
@@ -17,32 +18,18 @@ use Rattle.fixup_rows.specs.declared.fixup.Fixup.{Fixup}
 use Rattle.difference.specs.Module.{same_numbers, says}
 use Rattle.difference.proofs.Lists.{same-eq}
 use Rattle.alike.specs.Parts.{numbers_of, refers_to}
+use Rattle.alike.proofs.Names.{same-each}
 
--- `same_four`
-module _ (a b c d e f g h : ℕ) where
-  pub four-first : (a ≡ e → ⊥) → false ≡ same_numbers (a ∷ b ∷ c ∷ d ∷ []) (e ∷ f ∷ g ∷ h ∷ [])
-  unfolding same_numbers
-  four-first p = rw (ne_eqb a e p)
+-- `numbers`
+pub numbers-told : (x : Fixup) → x.home ∷ x.position ∷ x.size ∷ x.mode ∷ x.value ∷ x.number ∷ x.outside ∷ [] ≡ numbers_of (told_fixup x)
+unfolding numbers_of
+numbers-told x = refl
 
-  module _ (p : a ≡ e) where
-    pub four-second : (b ≡ f → ⊥) → false ≡ same_numbers (a ∷ b ∷ c ∷ d ∷ []) (e ∷ f ∷ g ∷ h ∷ [])
-    unfolding same_numbers
-    four-second q = rw (eq-eqb a e p, ne_eqb b f q)
+-- `same_numbers`
+pub numbers-same : (a b : List ℕ) (x y : Fixup) → a ≡ numbers_of (told_fixup x) → b ≡ numbers_of (told_fixup y) → {r : Bool} → r ≡ pointwise eqb a b → r ≡ same_numbers (numbers_of (told_fixup x)) (numbers_of (told_fixup y))
+numbers-same a b x y e f g = g ∙ (same-each a b ∙ rw (e, f))
 
-    module _ (q : b ≡ f) where
-      pub four-third : (c ≡ g → ⊥) → false ≡ same_numbers (a ∷ b ∷ c ∷ d ∷ []) (e ∷ f ∷ g ∷ h ∷ [])
-      unfolding same_numbers
-      four-third r = rw (eq-eqb a e p, eq-eqb b f q, ne_eqb c g r)
-
-      pub four-last : c ≡ g → eqb d h ≡ same_numbers (a ∷ b ∷ c ∷ d ∷ []) (e ∷ f ∷ g ∷ h ∷ [])
-      unfolding same_numbers
-      four-last r = rw (eq-eqb a e p, eq-eqb b f q, eq-eqb c g r) (last (eqb d h))
-        where
-          last : (t : Bool) → t ≡ pick t true false
-          last true = refl
-          last false = refl
-
-pub ruleset four = (rules, four-first, four-second, four-third, four-last)
+pub ruleset numbers = (rules, numbers-told, numbers-same)
 
 -- two lists in two parts
 pick-with : (b c d e : Bool) → c ≡ pick d e false → pick b c false ≡ pick (pick b d false) e false
@@ -56,23 +43,6 @@ in_parts [] (y ∷ ys) p q h = absurd (omega (arith, h))
 in_parts (x ∷ xs) [] p q h = absurd (omega (arith, h))
 in_parts (x ∷ xs) (y ∷ ys) p q h =
     pick-with (eqb x y) (same_numbers (xs ++ p) (ys ++ q)) (same_numbers xs ys) (same_numbers p q) (in_parts xs ys p q (omega (arith, h)))
-
--- `same_numbers`
-module _ (x y : Fixup) {r : Bool} (e : r ≡ same_numbers (x.home ∷ x.position ∷ x.size ∷ x.mode ∷ []) (y.home ∷ y.position ∷ y.size ∷ y.mode ∷ [])) where
-  in-fours : same_numbers (numbers_of (told_fixup x)) (numbers_of (told_fixup y)) ≡ pick r (same_numbers (x.value ∷ x.number ∷ x.outside ∷ 0 ∷ []) (y.value ∷ y.number ∷ y.outside ∷ 0 ∷ [])) false
-  unfolding numbers_of same_numbers
-  in-fours =
-      in_parts (x.home ∷ x.position ∷ x.size ∷ x.mode ∷ []) (y.home ∷ y.position ∷ y.size ∷ y.mode ∷ [])
-      (x.value ∷ x.number ∷ x.outside ∷ []) (y.value ∷ y.number ∷ y.outside ∷ []) refl
-      ∙ ap (λ (b : Bool). pick b (same_numbers (x.value ∷ x.number ∷ x.outside ∷ []) (y.value ∷ y.number ∷ y.outside ∷ [])) false) (sym e)
-
-  pub fours-same : r ≡ true → {b : Bool} → b ≡ same_numbers (x.value ∷ x.number ∷ x.outside ∷ 0 ∷ []) (y.value ∷ y.number ∷ y.outside ∷ 0 ∷ []) → b ≡ same_numbers (numbers_of (told_fixup x)) (numbers_of (told_fixup y))
-  fours-same f g = g ∙ sym (in-fours ∙ rw f)
-
-  pub fours-other : r ≡ false → false ≡ same_numbers (numbers_of (told_fixup x)) (numbers_of (told_fixup y))
-  fours-other f = sym (in-fours ∙ rw f)
-
-pub ruleset numbers = (rules, fours-same, fours-other)
 
 pub says-parts : (s t : List ℕ) (x y : the.Fixup) → same_numbers (says s x) (says t y) ≡ pick (same_numbers (numbers_of x) (numbers_of y)) (same_numbers (refers_to s x) (refers_to t y)) false
 unfolding says numbers_of refers_to

@@ -1,5 +1,5 @@
 // Whether two fixups are equal.
-ghost use Rattle.std.specs.Prelude.{◌≡◌, [], ◌∷◌};
+ghost use Rattle.std.specs.Prelude.{◌≡◌};
 ghost use Rattle.difference.specs.Module.{same_numbers, says};
 ghost use Rattle.laws.specs.Rows.{fixup_row};
 ghost use Rattle.fixup_rows.specs.Fixups.{told_fixup};
@@ -8,34 +8,20 @@ ghost use Rattle.alike.specs.Parts.{numbers_of, refers_to};
 use crate::name::same_name;
 use fixup_rows::{Fixup, fixup_at, fixup_name};
 
-// Whether four numbers are equal, each to its own.
-fn same_four(a: u32, b: u32, c: u32, d: u32, e: u32, f: u32, g: u32, h: u32) -> bool
-    ensures { result ≡ same_numbers (a ∷ b ∷ c ∷ d ∷ []) (e ∷ f ∷ g ∷ h ∷ []) }
+// The numbers of a fixup, but for what it refers to.
+fn numbers(x: Fixup) -> [u32; 7]
+    ensures { result ≡ numbers_of (told_fixup x) }
 {
-    if a != e {
-        return false;
-    }
-    if b != f {
-        return false;
-    }
-    if c != g {
-        return false;
-    }
-    d == h
+    [
+        x.home, x.position, x.size, x.mode, x.value, x.number, x.outside,
+    ]
 }
 
 // Whether all is equal but what they refer to.
 fn same_numbers(x: Fixup, y: Fixup) -> bool
     ensures { result ≡ same_numbers (numbers_of (told_fixup x)) (numbers_of (told_fixup y)) }
 {
-    if same_four(
-        x.home, x.position, x.size, x.mode, y.home, y.position, y.size, y.mode,
-    ) {
-        return same_four(
-            x.value, x.number, x.outside, 0, y.value, y.number, y.outside, 0,
-        );
-    }
-    false
+    numbers(x) == numbers(y)
 }
 
 // Whether fixup i, which is x, and fixup j, which is y, refer to the same: an area by its id, an outside symbol by its name.

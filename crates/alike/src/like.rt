@@ -9,14 +9,12 @@ use crate::fixup::same_fixup;
 fn first_like(s: &[u8], xs: &[u32], i: usize, t: &[u8], ys: &[u32], n: usize) -> usize
     ensures { result ≡ first_of (same_at s.now xs.now i t.now ys.now) n }
 {
-    let mut j = 0;
-    while j < n {
+    for j in 0..n {
         if same_fixup(s, xs, i, t, ys, j) {
             return j;
         }
-        j += 1;
     }
-    j
+    n
 }
 
 // One of n fixups that equals fixup i: the one that is expected, or the first, or n where there is none.

@@ -11,15 +11,15 @@ use Rattle.header.specs.declared.Width.TheVariants.{Four, Three, Two}
 use Rattle.header.specs.declared.Head.{Head}
 use Rattle.header.specs.declared.Head.TheVariants.{Found, Missing}
 use Rattle.target_asked.specs.Asked as targets
-use Rattle.target_asked.specs.declared.Answer as target
-use Rattle.target_asked.specs.declared.Answer.TheVariants.{At, Refused}
+use Rattle.std.specs.Prelude.{Result, Ok, Err}
+use Rattle.target_asked.specs.declared.Refusal.{Refusal}
 use Rattle.answer_numbers.specs.Numbers.{header_numbers, target_numbers}
 
-pub at-numbers : {a : target.Answer} {t : ℕ} → a ≡ At t → target_numbers (targets.told (At t)) ≡ target_numbers (targets.told a)
-at-numbers e = sym (ap (λ (x : target.Answer). target_numbers (targets.told x)) e)
+pub at-numbers : {a : Result ℕ Refusal} {t : ℕ} → a ≡ Ok t → target_numbers (targets.told (Ok t)) ≡ target_numbers (targets.told a)
+at-numbers e = sym (ap (λ (x : Result ℕ Refusal). target_numbers (targets.told x)) e)
 
-pub refused-target : {a : target.Answer} {n p : ℕ} → a ≡ Refused n p → target_numbers (targets.told (Refused n p)) ≡ target_numbers (targets.told a)
-refused-target e = sym (ap (λ (x : target.Answer). target_numbers (targets.told x)) e)
+pub refused-target : {a : Result ℕ Refusal} {r : Refusal} → a ≡ Err r → target_numbers (targets.told (Err r)) ≡ target_numbers (targets.told a)
+refused-target e = sym (ap (λ (x : Result ℕ Refusal). target_numbers (targets.told x)) e)
 
 pub header-numbers : {head : Head} {form : Form} {next radix big width : ℕ}
     → head ≡ Found form next → radix ≡ form.radix → big ≡ flag form.big → width ≡ suc (more_of form.width)

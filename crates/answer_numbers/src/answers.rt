@@ -6,6 +6,7 @@ ghost use Rattle.format.specs.Rows.{flag};
 ghost use Rattle.answer_numbers.specs.Numbers.{header_numbers, target_numbers};
 
 use header::{Head, Width};
+use target_asked::Refusal;
 
 // What a header tells: 4 if there is none; or 0, the radix, 1 for big, and the address length.
 #[repr(C)]
@@ -26,15 +27,15 @@ pub struct TargetNumbers {
 }
 
 // The numbers of a target's answer.
-pub fn target_numbers(answer: target_asked::Answer) -> TargetNumbers
+pub fn target_numbers(answer: Result<u64, Refusal>) -> TargetNumbers
     ensures { result ≡ target_numbers (targets.told answer) }
 {
     match answer {
-        target_asked::Answer::At(t) => TargetNumbers {
+        Ok(t) => TargetNumbers {
             refusal: 0,
             target: t,
         },
-        target_asked::Answer::Refused { number, place: _ } => TargetNumbers {
+        Err(Refusal { number, place: _ }) => TargetNumbers {
             refusal: number,
             target: 0,
         },

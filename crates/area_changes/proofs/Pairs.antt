@@ -1,23 +1,18 @@
 -- The laws of the areas, pair by pair.
 -- Assumes nothing.
-use Prim.Native.Nat.{ℕ, zero, suc, min, ◌+◌, ◌*◌, ◌-◌, ◌<◌, ◌≤◌}
+use Prim.Native.Nat.{ℕ, min, ◌-◌, ◌<◌, ◌≤◌}
 use mathlib.Core.Path.{◌≡◌, refl, ap, subst, sym, ◌∙◌}
 use mathlib.Core.Bool.{Bool, true, false, not, ◌&&◌}
-use mathlib.Core.List.{List, [], ◌∷◌, ◌++◌}
+use mathlib.Core.List.{List, ◌++◌}
 use mathlib.Core.Option.{Option, none, some}
 use native.Mathlib.Omega.{arith}
-use native.Mathlib.Numerals.{add-one}
 use lib.ListN.{length, take, drop, length-drop, length-take}
 use lib.Dec.{leb, ltb}
 use borrow.Author.Rules.{rules}
-use borrow.Author.Tests.{le-leb, leb-true, lt-leb, not-false, not-true, lt-ltb, le-ltb, ltb-true, ltb-false}
+use borrow.Author.Tests.{le-leb, leb-true, lt-leb, not-false, not-true, lt-ltb, le-ltb}
 use Rattle.format.specs.Lists.{pick}
 use Rattle.format.specs.Fixups.{Fixup}
-use Rattle.format.specs.Tables.{kept}
-use Rattle.laws.specs.Rows.{area_at, areas_in, from}
-use Rattle.next_areas.specs.Next.{next_kept}
-use Rattle.next_areas.proofs.Laws.{next-is}
-use Rattle.difference.specs.Module.{Cell, cells, sizes, split}
+use Rattle.difference.specs.Module.{Cell, cells}
 use Rattle.difference.specs.Changes.{Change, area, newer, older, paired, position_change}
 use Rattle.difference.specs.Rows.{change_numbers}
 use Rattle.change_rows.specs.Room.{few_of, paired_masks}
@@ -27,7 +22,7 @@ use Rattle.fixup_changes.proofs.Lacks.{the-fixups}
 use Rattle.change_rows.specs.Walk.{Put, Walked, WalkedIf}
 use Rattle.area_changes.specs.Here.{area_here, areas_fit, image_at}
 use Rattle.fixup_changes.specs.Here.{lacking_in}
-use Rattle.change_rows.proofs.Going.{Going, going_end, going_start, going_step, no_row, one-row, put-added, walked_both}
+use Rattle.change_rows.proofs.Going.{no_row, one-row, put-added, walked_both}
 
 -- `pair`
 pub pair_is : {w : Bool} {list : List ℕ} {n : ℕ} {cs ds es : List Change} {r : ℕ} {one : List ℕ} {p : ℕ} {two : List ℕ} {q : ℕ} {after : List ℕ} (v k x l : List ℕ) {a b : ℕ}

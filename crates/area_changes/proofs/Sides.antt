@@ -7,15 +7,15 @@ use mathlib.Core.List.{List, [], ◌∷◌, ◌++◌}
 use mathlib.Core.Option.{Option, none, some}
 use native.Mathlib.Omega.{arith}
 use native.Mathlib.Numerals.{add-one}
-use lib.ListN.{length, take, drop}
+use lib.ListN.{take, drop}
 use lib.Seq.{drop-drop}
 use lib.Dec.{ltb}
 use borrow.Author.Rules.{rules}
-use borrow.Author.Tests.{lt-ltb, le-ltb, ltb-true, ltb-false}
+use borrow.Author.Tests.{ltb-true, ltb-false}
 use Rattle.format.specs.Lists.{pick}
 use Rattle.format.specs.Fixups.{Fixup}
 use Rattle.format.specs.Tables.{kept}
-use Rattle.laws.specs.Rows.{area_at, areas_in, fixups_in, from}
+use Rattle.laws.specs.Rows.{area_at, areas_in, from}
 use Rattle.next_areas.specs.Next.{next_kept}
 use Rattle.next_areas.proofs.Laws.{next-is}
 use Rattle.difference.specs.Module.{Cell, cells, sizes, split}
@@ -188,17 +188,15 @@ module _ (s : List ℕ) (fs : List Fixup) (t : List ℕ) (gs : List Fixup) (p : 
       }
 
   module _ {list : List ℕ} {i j start begin id count : ℕ} (g : AreasGo s fs t gs p a v k q b w l writing first list i j start begin id count) where
-    pub areas-end : {r : ℕ} → r ≡ (a - i) + (b - j) → r ≤ 0 → Walked writing first 0 all 8650752 count list
+    pub areas-end : a ≤ i → b ≤ j → Walked writing first 0 all 8650752 count list
     unfolding paired
-    areas-end e h =
-        let x : a ≤ i = omega arith in
-        let y : b ≤ j = omega arith in
+    areas-end x y =
         let z : paired (area_here s fs t gs) id (side_from p a v k i start) (side_from q b w l j begin) ≡ [] =
         ap (λ (m : List (List Cell)). paired (area_here s fs t gs) id m (side_from q b w l j begin)) (side-none p a v k i start x)
         ∙ ap (λ (m : List (List Cell)). paired (area_here s fs t gs) id [] m) (side-none q b w l j begin y) in
         going_end g.going z (omega (arith, g.few, g.old-inside, g.new-inside, g.old-low, g.new-low))
 
-    module _ {r : ℕ} (e : r ≡ (a - i) + (b - j)) (h : 0 < r) {size extent : ℕ} (x : (size ≡ pick (ltb i a) (area_at p i).size 0) × (size < 4294967296)) (y : (extent ≡ pick (ltb j b) (area_at q j).size 0) × (extent < 4294967296))
+    module _ (h : 0 < (a - i) + (b - j)) {size extent : ℕ} (x : (size ≡ pick (ltb i a) (area_at p i).size 0) × (size < 4294967296)) (y : (extent ≡ pick (ltb j b) (area_at q j).size 0) × (extent < 4294967296))
         {i' j' : ℕ} (m : i' ≡ pick (ltb i a) (next_kept p a (i + 1)) i) (n : j' ≡ pick (ltb j b) (next_kept q b (j + 1)) j) where
       old : Turned p a v k i start size (image_at v k start size i a) i'
       old = turned p a v k i start g.old-inside g.old-kept x.1 x.0 m
@@ -242,8 +240,8 @@ after_less p a i {k} e = step (ltb i a) refl e
     step false h f = omega (arith, f, ltb-false i a h)
 
 pub areas-less : (p : List ℕ) (a i : ℕ) {k : ℕ} → k ≡ pick (ltb i a) (next_kept p a (i + 1)) i → (q : List ℕ) (b j : ℕ) {l : ℕ} → l ≡ pick (ltb j b) (next_kept q b (j + 1)) j
-    → {r : ℕ} → r ≡ (a - i) + (b - j) → 0 < r → (a - k) + (b - l) < (a - i) + (b - j)
-areas-less p a i e q b j f g h = omega (arith, after_less p a i e, after_less q b j f)
+    → 0 < (a - i) + (b - j) → (a - k) + (b - l) < (a - i) + (b - j)
+areas-less p a i e q b j f h = omega (arith, after_less p a i e, after_less q b j f)
 
 pub ruleset lesses = (rules, areas-less)
 

@@ -13,76 +13,70 @@ ghost use Rattle.area_changes.specs.Here.{area_here, areas_fit, image_at};
 
 use area_rows::area_size;
 use cells::wide;
-use change_rows::{few, paired_masks};
+use change_rows::{Side, few, paired_masks};
 use fixup_changes::fixups;
 use lone_area::{only_new, only_old};
 use next_areas::{next_kept, stretch};
 use position_changes::positions;
 
-// A pair of areas: the older's values v, masks k and m fixups, and the newer's values w, masks l and n fixups.
-fn pair(
-    s: &[u8],
-    v: &[u8],
-    k: &[u8],
-    xs: &[u32],
-    m: usize,
-    t: &[u8],
-    w: &[u8],
-    l: &[u8],
-    ys: &[u32],
-    n: usize,
-    id: u32,
-    list: &mut [u32],
-    count: usize,
-    writing: bool,
-) -> usize
-    requires { (length v.now ≤ 65536) × (length w.now ≤ 65536) × (length k.now ≡ length v.now) × (length l.now ≡ length w.now) × (m ≤ 1024) × (n ≤ 1024) × (count ≤ 536000000) }
-    ensures { Walked writing list.old count (paired (position_change id) 0 (cells v.now k.now) (cells w.now l.now) ++ (lacking_in false id s.now (fixups_in xs.now m) t.now (fixups_in ys.now n) ++ lacking_in true id t.now (fixups_in ys.now n) s.now (fixups_in xs.now m))) 67584 result list.new }
-{
-    let behind = positions(v, k, w, l, id, list, count, writing);
-    let middle = fixups(false, id, s, xs, m, t, ys, n, list, behind, writing);
-    fixups(true, id, t, ys, n, s, xs, m, list, middle, writing)
-}
-
-// The areas of an id: i of the older's a, whose image has this start and size, and j of the newer's b.
-fn area(
-    s: &[u8],
-    v: &[u8],
-    k: &[u8],
-    xs: &[u32],
-    m: usize,
-    i: usize,
-    a: usize,
+// An area: its index, where its image starts, and the image's size.
+#[derive(Clone, Copy)]
+struct Place {
+    index: usize,
     start: usize,
     size: usize,
-    t: &[u8],
-    w: &[u8],
-    l: &[u8],
-    ys: &[u32],
-    n: usize,
-    j: usize,
-    b: usize,
-    begin: usize,
-    extent: usize,
+}
+
+// A pair of areas, whose images are all that the sides have.
+fn pair(older: &Side, newer: &Side, id: u32, list: &mut [u32], count: usize, writing: bool) -> usize
+    requires { (length older.now.values.now ≤ 65536) × (length newer.now.values.now ≤ 65536) × (length older.now.masks.now ≡ length older.now.values.now) × (length newer.now.masks.now ≡ length newer.now.values.now) × (older.now.fixup_count ≤ 1024) × (newer.now.fixup_count ≤ 1024) × (count ≤ 536000000) }
+    ensures { Walked writing list.old count (paired (position_change id) 0 (cells older.now.values.now older.now.masks.now) (cells newer.now.values.now newer.now.masks.now) ++ (lacking_in false id older.now.text.now (fixups_in older.now.fixups.now older.now.fixup_count) newer.now.text.now (fixups_in newer.now.fixups.now newer.now.fixup_count) ++ lacking_in true id newer.now.text.now (fixups_in newer.now.fixups.now newer.now.fixup_count) older.now.text.now (fixups_in older.now.fixups.now older.now.fixup_count))) 67584 result list.new }
+{
+    let behind = positions(
+        older.values,
+        older.masks,
+        newer.values,
+        newer.masks,
+        id,
+        list,
+        count,
+        writing,
+    );
+    let middle = fixups(false, id, older, newer, list, behind, writing);
+    fixups(true, id, newer, older, list, middle, writing)
+}
+
+// The areas of an id: one of the older's, and one of the newer's, where they are there.
+fn area(
+    older: &Side,
+    one: Place,
+    newer: &Side,
+    two: Place,
     id: u32,
     list: &mut [u32],
     count: usize,
     writing: bool,
 ) -> usize
-    requires { (length v.now ≤ 65536) × (length w.now ≤ 65536) × (length k.now ≡ length v.now) × (length l.now ≡ length w.now) × (m ≤ 1024) × (n ≤ 1024) × (count ≤ 536000000) }
-    ensures { Walked writing list.old count (area_here s.now (fixups_in xs.now m) t.now (fixups_in ys.now n) id (image_at v.now k.now start size i a) (image_at w.now l.now begin extent j b)) 67584 result list.new }
+    requires { (length older.now.values.now ≤ 65536) × (length newer.now.values.now ≤ 65536) × (length older.now.masks.now ≡ length older.now.values.now) × (length newer.now.masks.now ≡ length newer.now.values.now) × (older.now.fixup_count ≤ 1024) × (newer.now.fixup_count ≤ 1024) × (count ≤ 536000000) }
+    ensures { Walked writing list.old count (area_here older.now.text.now (fixups_in older.now.fixups.now older.now.fixup_count) newer.now.text.now (fixups_in newer.now.fixups.now newer.now.fixup_count) id (image_at older.now.values.now older.now.masks.now one.start one.size one.index older.now.area_count) (image_at newer.now.values.now newer.now.masks.now two.start two.size two.index newer.now.area_count)) 67584 result list.new }
 {
-    if i < a {
-        if j < b {
-            let va = stretch(v, start, size);
-            let ka = stretch(k, start, size);
-            let wb = stretch(w, begin, extent);
-            let lb = stretch(l, begin, extent);
-            return pair(s, va, ka, xs, m, t, wb, lb, ys, n, id, list, count, writing);
+    if one.index < older.area_count {
+        if two.index < newer.area_count {
+            let older = Side {
+                values: stretch(older.values, one.start, one.size),
+                masks: stretch(older.masks, one.start, one.size),
+                ..*older
+            };
+            let newer = Side {
+                values: stretch(newer.values, two.start, two.size),
+                masks: stretch(newer.masks, two.start, two.size),
+                ..*newer
+            };
+            return pair(&older, &newer, id, list, count, writing);
         }
         return only_old(list, count, writing, id);
     }
-    if j < b {
+    if two.index < newer.area_count {
         return only_new(list, count, writing, id);
     }
     count
@@ -108,108 +102,65 @@ fn after(areas: &[u32], n: usize, i: usize) -> usize
     i
 }
 
-// How many areas are left, at most.
-fn left(i: usize, a: usize, j: usize, b: usize) -> usize
-    requires { (a ≤ 64) × (b ≤ 64) }
-    ensures { result ≡ (a - i) + (b - j) }
+// All pairs of areas, in the order of their ids.
+fn walk(older: &Side, newer: &Side, list: &mut [u32], writing: bool) -> usize
+    requires { (length older.now.values.now ≤ 65536) × (length newer.now.values.now ≤ 65536) × (length older.now.masks.now ≡ length older.now.values.now) × (length newer.now.masks.now ≡ length newer.now.values.now) × (older.now.fixup_count ≤ 1024) × (newer.now.fixup_count ≤ 1024) × (older.now.area_count ≤ 64) × (newer.now.area_count ≤ 64) }
+    ensures { Walked writing list.old 0 (paired (area_here older.now.text.now (fixups_in older.now.fixups.now older.now.fixup_count) newer.now.text.now (fixups_in newer.now.fixups.now newer.now.fixup_count)) 0 (split (sizes (areas_in older.now.areas.now older.now.area_count)) (cells older.now.values.now older.now.masks.now)) (split (sizes (areas_in newer.now.areas.now newer.now.area_count)) (cells newer.now.values.now newer.now.masks.now))) 8650752 result list.new }
 {
-    ahead(i, a) + ahead(j, b)
-}
-
-// How many of n are left from i on.
-fn ahead(i: usize, n: usize) -> usize
-    ensures { (result ≡ n - i) × (result ≤ n) }
-{
-    if i < n { n - i } else { 0 }
-}
-
-// All pairs of areas, in the order of their ids: the older has a areas in the rows p and m fixups, the newer b in q and n.
-fn walk(
-    s: &[u8],
-    p: &[u32],
-    a: usize,
-    v: &[u8],
-    k: &[u8],
-    xs: &[u32],
-    m: usize,
-    t: &[u8],
-    q: &[u32],
-    b: usize,
-    w: &[u8],
-    l: &[u8],
-    ys: &[u32],
-    n: usize,
-    list: &mut [u32],
-    writing: bool,
-) -> usize
-    requires { (length v.now ≤ 65536) × (length w.now ≤ 65536) × (length k.now ≡ length v.now) × (length l.now ≡ length w.now) × (m ≤ 1024) × (n ≤ 1024) × (a ≤ 64) × (b ≤ 64) }
-    ensures { Walked writing list.old 0 (paired (area_here s.now (fixups_in xs.now m) t.now (fixups_in ys.now n)) 0 (split (sizes (areas_in p.now a)) (cells v.now k.now)) (split (sizes (areas_in q.now b)) (cells w.now l.now))) 8650752 result list.new }
-{
-    let mut i = next_kept(p, a, 0);
-    let mut j = next_kept(q, b, 0);
+    let (a, b) = (older.area_count, newer.area_count);
+    let mut i = next_kept(older.areas, a, 0);
+    let mut j = next_kept(newer.areas, b, 0);
     let mut start = 0;
     let mut begin = 0;
     let mut id: u32 = 0;
     let mut count = 0;
-    while 0 < left(i, a, j, b) {
-        let size = size_at(p, a, i);
-        let extent = size_at(q, b, j);
-        count = area(
-            s, v, k, xs, m, i, a, start, size, t, w, l, ys, n, j, b, begin, extent, id, list,
-            count, writing,
-        );
-        start += size;
-        begin += extent;
-        i = after(p, a, i);
-        j = after(q, b, j);
+    while i < a || j < b {
+        let one = Place {
+            index: i,
+            start,
+            size: size_at(older.areas, a, i),
+        };
+        let two = Place {
+            index: j,
+            start: begin,
+            size: size_at(newer.areas, b, j),
+        };
+        count = area(older, one, newer, two, id, list, count, writing);
+        start += one.size;
+        begin += two.size;
+        i = after(older.areas, a, i);
+        j = after(newer.areas, b, j);
         id += 1;
     }
     count
 }
 
 // Whether all can be walked: images with a mask for each position, at most 64 areas and 1,024 fixups on a side.
-fn walkable(a: usize, v: &[u8], k: &[u8], m: usize, b: usize, w: &[u8], l: &[u8], n: usize) -> bool
-    ensures { result ≡ areas_fit a v.now k.now m b w.now l.now n }
+fn walkable(older: &Side, newer: &Side) -> bool
+    ensures { result ≡ areas_fit older.now.area_count older.now.values.now older.now.masks.now older.now.fixup_count newer.now.area_count newer.now.values.now newer.now.masks.now newer.now.fixup_count }
 {
-    if !paired_masks(v, k) {
+    if !paired_masks(older.values, older.masks) {
         return false;
     }
-    if !paired_masks(w, l) {
+    if !paired_masks(newer.values, newer.masks) {
         return false;
     }
-    if 64 < a {
+    if 64 < older.area_count {
         return false;
     }
-    if 64 < b {
+    if 64 < newer.area_count {
         return false;
     }
-    few(0, m, n)
+    few(0, older.fixup_count, newer.fixup_count)
 }
 
-// All pairs of areas, in the order of their ids: the older has a areas in the rows p and m fixups, the newer b in q and n.
-// Where an image lacks a mask or there is more than a reading can give, nothing is added.
-pub fn areas(
-    s: &[u8],
-    p: &[u32],
-    a: usize,
-    v: &[u8],
-    k: &[u8],
-    xs: &[u32],
-    m: usize,
-    t: &[u8],
-    q: &[u32],
-    b: usize,
-    w: &[u8],
-    l: &[u8],
-    ys: &[u32],
-    n: usize,
-    list: &mut [u32],
-    writing: bool,
-) -> usize
-    ensures { WalkedIf (areas_fit a v.now k.now m b w.now l.now n) writing list.old 0 (paired (area_here s.now (fixups_in xs.now m) t.now (fixups_in ys.now n)) 0 (split (sizes (areas_in p.now a)) (cells v.now k.now)) (split (sizes (areas_in q.now b)) (cells w.now l.now))) 8650752 result list.new }
+// All pairs of areas, in the order of their ids. Where an image lacks a mask or there is more than a reading can give,
+// nothing is added.
+pub fn areas(older: &Side, newer: &Side, list: &mut [u32], writing: bool) -> usize
+    ensures { WalkedIf (areas_fit older.now.area_count older.now.values.now older.now.masks.now older.now.fixup_count newer.now.area_count newer.now.values.now newer.now.masks.now newer.now.fixup_count) writing list.old 0 (paired (area_here older.now.text.now (fixups_in older.now.fixups.now older.now.fixup_count) newer.now.text.now (fixups_in newer.now.fixups.now newer.now.fixup_count)) 0 (split (sizes (areas_in older.now.areas.now older.now.area_count)) (cells older.now.values.now older.now.masks.now)) (split (sizes (areas_in newer.now.areas.now newer.now.area_count)) (cells newer.now.values.now newer.now.masks.now))) 8650752 result list.new }
 {
-    if walkable(a, v, k, m, b, w, l, n) {
-        return walk(s, p, a, v, k, xs, m, t, q, b, w, l, ys, n, list, writing);
+    if walkable(older, newer) {
+        return walk(older, newer, list, writing);
     }
     0
 }

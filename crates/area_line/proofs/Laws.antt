@@ -1,19 +1,18 @@
 -- The laws of what an area's line says of its id and of its kind, and of a position.
 -- Assumes nothing.
 use Prim.Native.Nat.{ℕ}
-use mathlib.Core.Path.{◌≡◌, refl, ap, sym, ◌∙◌}
+use mathlib.Core.Path.{◌≡◌, ap, sym, ◌∙◌}
 use mathlib.Core.Bool.{Bool, true, false}
-use mathlib.Core.List.{List, [], ◌∷◌, ◌++◌}
+use mathlib.Core.List.{List, ◌++◌}
 use mathlib.Core.Option.{Option, none, some}
 use native.Mathlib.Omega.{arith}
 use lib.ListN.{get_or}
 use borrow.Author.Rules.{rules}
+use Rattle.std.specs.Prelude.{Option as Answer, Some, None}
 use Rattle.hexadecimal.specs.Hex.{hex_digits, value_and_mask}
 use Rattle.format.specs.Lists.{pick}
 use Rattle.format.specs.Tables.{Area, absolute, base}
 use Rattle.kept_areas.specs.Told.{told_id}
-use Rattle.kept_areas.specs.declared.rank.Id.{Id}
-use Rattle.kept_areas.specs.declared.rank.Id.TheVariants.{Kept, Unkept}
 use Rattle.sink.specs.declared.output.Sink.{Sink}
 use Rattle.sink.specs.Sinks.{Adds, AddsDecimal}
 use Rattle.area_line.specs.Lines.{AddsId, id_word, kind_text, absolute_word, relocatable_word}
@@ -32,13 +31,13 @@ module _ {s r : Sink} {out after : List ℕ} (a : Area) {b : Bool} where
 pub ruleset kinds = (rules, kind-absolute, kind-relocatable)
 
 -- `id`
-module _ {s r : Sink} {out after : List ℕ} {o : Option ℕ} {x : Id} (p : told_id x ≡ o) where
-  pub id-told : {k : ℕ} → x ≡ Kept k → AddsDecimal s out id_word k r after → AddsId s out o r after
+module _ {s r : Sink} {out after : List ℕ} {o : Option ℕ} {x : Answer ℕ} (p : told_id x ≡ o) where
+  pub id-told : {k : ℕ} → x ≡ Some k → AddsDecimal s out id_word k r after → AddsId s out o r after
   id-told {k} f w =
       let e : some k ≡ o = ap told_id (sym f) ∙ p in
       record { told = λ m g. let q : k ≡ m = cc in rw q at w }
 
-  pub id-none : x ≡ Unkept → AddsId s out o r after
+  pub id-none : x ≡ None → AddsId s out o r after
   id-none f =
       let e : none ≡ o = ap told_id (sym f) ∙ p in
       record { told = λ m g. let z : ◌≡◌ {A = ℕ} 0 1 = cc in absurd (omega arith) }

@@ -8,7 +8,6 @@ ghost use Rattle.laws.specs.Rows.{area_at, areas_in};
 ghost use Rattle.sink.specs.Sinks.{Adds};
 ghost use Rattle.area_line.specs.Lines.{AddsId, kind_text};
 
-use kept_areas::Id;
 use sink::{Buffer, Sink};
 
 // Whether an area is relocatable or absolute, and the base of an absolute one.
@@ -31,8 +30,8 @@ pub fn id(s: Sink, out: &mut Buffer, areas: &[u32], n: usize, i: usize) -> Sink
     ensures { AddsId s out.old (the.rank 0 (areas_in areas.now n) i) result out.new }
 {
     match kept_areas::area_id(areas, n, i) {
-        Id::Kept { id } => texts::decimal(s, out, b" id ", id),
-        Id::Unkept => s,
+        Some(id) => texts::decimal(s, out, b" id ", id),
+        None => s,
     }
 }
 

@@ -3,6 +3,7 @@
 use Prim.Native.Nat.{ℕ, zero, suc, ◌+◌, ◌*◌, ◌-◌, ◌<◌, ◌≤◌}
 use mathlib.Core.Path.{◌≡◌, refl, sym, ap, ◌∙◌}
 use mathlib.Core.Bool.{Bool, true, false}
+use Rattle.std.proofs.lemmas.Bool.{false≢true}
 use mathlib.Core.List.{List}
 use native.Mathlib.Omega.{arith}
 use native.Mathlib.Numerals.{add-one}
@@ -19,10 +20,11 @@ use Rattle.book.specs.Steps.{silent}
 use Rattle.book.proofs.Twice as twice
 use Rattle.book.proofs.Twice.{Unseen, unseen-start, unseen-end, Different, different-start, different-end}
 use Rattle.book_rows.specs.Told.{order_by}
-use Rattle.book_rows.specs.declared.name.Way.{Way}
-use Rattle.book_rows.specs.declared.name.Way.TheVariants.{Less, Same, More}
+use Rattle.std.specs.declared.cmp.Ordering.{Ordering}
+use Rattle.std.specs.declared.cmp.Ordering.TheVariants.{Less, Equal, Greater}
+use Rattle.std.specs.Ordering.{is_eq}
+use Rattle.std.specs.Prelude.{Some}
 use Rattle.book_given.specs.Told.{twice_of}
-use Rattle.book_given.specs.declared.twice.Twice.TheVariants.{At}
 
 -- a number and a name of a row
 pub cell-is : (rows : List ℕ) (i k : ℕ) {v w r : ℕ} → v ≡ i → w ≡ k → r ≡ get_or rows (5 * v + w) 0 → r ≡ field_at rows i k
@@ -82,24 +84,32 @@ module _ {p r : List ℕ} {n i : ℕ} (w : Inside p r n i) where
 pub ruleset inside = (rules, inside-start, inside-end, inside-more, inside-stop)
 
 -- a name among the earlier ones, by the answer of the comparison
-module _ {p r : List ℕ} {k i : ℕ} (w : Unseen p r k i) (h : i < k) {a b : List ℕ} (c : a ≡ (entry_at p r k).name) (d : b ≡ (entry_at p r i).name) {y : Way} (e : order a b ≡ order_by y) where
-  pub unseen-less : y ≡ Less → Unseen p r k (i + 1)
-  unseen-less g = twice.unseen-less w h (rw (c, d, g) at e)
+module _ {p r : List ℕ} {k i : ℕ} (w : Unseen p r k i) (h : i < k) {a b : List ℕ} (c : a ≡ (entry_at p r k).name) (d : b ≡ (entry_at p r i).name) where
+  unseen_by : (y : Ordering) → order a b ≡ order_by y → is_eq y ≡ false → Unseen p r k (i + 1)
+  unseen_by Less e g = twice.unseen-less w h (rw (c, d) at e)
+  unseen_by Equal e g = absurd (false≢true (sym g))
+  unseen_by Greater e g = twice.unseen-more w h (rw (c, d) at e)
 
-  pub unseen-more : y ≡ More → Unseen p r k (i + 1)
-  unseen-more g = twice.unseen-more w h (rw (c, d, g) at e)
+  same_by : (y : Ordering) → order a b ≡ order_by y → is_eq y ≡ true → true ≡ seen p r k k
+  same_by Less e g = absurd (false≢true g)
+  same_by Equal e g = twice.unseen_same w h (rw (c, d) at e)
+  same_by Greater e g = absurd (false≢true g)
 
-  pub unseen_same : y ≡ Same → true ≡ seen p r k k
-  unseen_same g = twice.unseen_same w h (rw (c, d, g) at e)
+  module _ (y : Ordering) (e : order a b ≡ order_by y) {t : Bool} (f : t ≡ is_eq y) where
+    pub unseen-next : t ≡ false → Unseen p r k (i + 1)
+    unseen-next g = unseen_by y e (sym f ∙ g)
 
-pub ruleset seeing = (rules, unseen-start, unseen-end, unseen-less, unseen-more, unseen_same)
+    pub unseen_same : t ≡ true → true ≡ seen p r k k
+    unseen_same g = same_by y e (sym f ∙ g)
+
+pub ruleset seeing = (rules, unseen-start, unseen-end, unseen-next, unseen_same)
 
 -- all entries, by the answer of the test
 module _ {p r : List ℕ} {m k : ℕ} (w : Different p r m k) (h : k < m) {t : Bool} (e : t ≡ seen p r k k) where
   pub twice-more : t ≡ false → Different p r m (k + 1)
   twice-more f = twice.different-more w h (sym e ∙ f)
 
-  pub twice-stop : t ≡ true → silent (in_order_of (given p r 0 m)) ≡ twice_of (At k)
+  pub twice-stop : t ≡ true → silent (in_order_of (given p r 0 m)) ≡ twice_of (Some k)
   twice-stop f = twice.different-stop w h (sym e ∙ f)
 
 pub ruleset differing = (rules, different-start, different-end, twice-more, twice-stop)

@@ -39,11 +39,8 @@ fn in_pool(pool: &[u8], rows: &[u32], i: u32) -> bool
 pub fn first_out(pool: &[u8], rows: &[u32], n: u32) -> u32
     ensures { result ≡ pooled pool.now rows.now 0 n }
 {
-    let mut i: u32 = 0;
-    while i < n {
-        if in_pool(pool, rows, i) {
-            i += 1;
-        } else {
+    for i in 0..n {
+        if !in_pool(pool, rows, i) {
             return i;
         }
     }

@@ -5,4 +5,4 @@ mod given;
 mod twice;
 
 pub use given::{first_out, given_cell, given_name};
-pub use twice::{Twice, first_twice};
+pub use twice::first_twice;

@@ -8,6 +8,7 @@ use mathlib.Core.List.{List, map}
 use lib.ListN.{length, drop}
 use borrow.Author.Rules.{rules}
 use borrow.Author.Tests.{le-leb, lt-leb, eq-eqb, ne_eqb}
+use Rattle.std.specs.Prelude.{Result, Ok, Err}
 use Rattle.format.specs.Outcome.{Outcome, fine, refused, and_then}
 use Rattle.laws.proofs.Outcomes.{unlike}
 use Rattle.book.specs.Entries.{Entry}
@@ -17,19 +18,15 @@ use Rattle.book.specs.Steps.{silent, row_fits, row_meets, row_end}
 use Rattle.book.proofs.Laws.{check-silent, First, first-start, first-end, first-stop, first_more, Second, second-start, second-end, second-stop, second_more}
 use Rattle.book.proofs.Opening.{opened-long}
 use Rattle.book_open.specs.Told.{passed_of, ended_of, entries_told, opened_of}
-use Rattle.book_open.specs.declared.ordered.Pass.{Pass}
-use Rattle.book_open.specs.declared.ordered.Pass.TheVariants as pass
-use Rattle.book_open.specs.declared.closed.Ends.{Ends}
-use Rattle.book_open.specs.declared.closed.Ends.TheVariants as ends
-use Rattle.book_open.specs.declared.open.Opened.TheVariants.{Book, Refused}
+use Rattle.book_open.specs.declared.open.Refusal.{Refusal}
 
 -- the first pass, by the answer of the test
 module _ {xs : List ℕ} {n i : ℕ} (w : First xs n i) where
   pub pass-more : {t : Bool} → i < n → t ≡ row_fits xs i → t ≡ true → First xs n (i + 1)
   pass-more h e f = first_more w h (sym e ∙ f)
 
-  pub pass-stop : {t : Bool} → i < n → t ≡ row_fits xs i → t ≡ false → silent (ordered xs 4 none (rows n (drop 4 xs))) ≡ passed_of (pass.Stop i)
-  pass-stop h e f = first-stop w h (sym e ∙ f)
+  pub pass-stop : {t : Bool} {q : ℕ} → i < n → t ≡ row_fits xs i → t ≡ false → q ≡ start i → silent (ordered xs 4 none (rows n (drop 4 xs))) ≡ passed_of (Err (record { number = 21; place = q }))
+  pass-stop h e f g = rw g (first-stop w h (sym e ∙ f))
 
 pub ruleset first-passing = (rules, first-start, first-end, pass-more, pass-stop)
 
@@ -38,8 +35,8 @@ module _ {xs : List ℕ} {n i at : ℕ} (w : Second xs n i at) where
   pub end_more : {t : Bool} {e : ℕ} → i < n → t ≡ row_meets xs at i → t ≡ true → e ≡ row_end xs i → Second xs n (i + 1) e
   end_more h e f g = second_more w h (sym e ∙ f) g
 
-  pub end-stop : {t : Bool} → i < n → t ≡ row_meets xs at i → t ≡ false → closed 4 (start n) (rows n (drop 4 xs)) ≡ ended_of (ends.Stop i)
-  end-stop h e f = second-stop w h (sym e ∙ f)
+  pub end-stop : {t : Bool} {q : ℕ} → i < n → t ≡ row_meets xs at i → t ≡ false → q ≡ start i → closed 4 (start n) (rows n (drop 4 xs)) ≡ ended_of (Err (record { number = 22; place = q }))
+  end-stop h e f g = rw g (second-stop w h (sym e ∙ f))
 
 pub ruleset second-passing = (rules, second-start, second-end, end_more, end-stop)
 
@@ -60,7 +57,7 @@ silent-fine xs {n} e h = go (check xs) refl h
 
 -- the whole
 module _ (xs : List ℕ) (n p : ℕ) (e : n ≡ number xs 0) (f : p ≡ start n) where
-  pub open-short : length xs < p → entries_told (check xs) ≡ opened_of (Refused 21 0)
+  pub open-short : length xs < p → entries_told (check xs) ≡ opened_of (Err (record { number = 21; place = 0 }))
   unfolding counted
   open-short h =
       let l : length xs < start (number xs 0) = rw (← e, ← f) h in
@@ -71,19 +68,19 @@ module _ (xs : List ℕ) (n p : ℕ) (e : n ≡ number xs 0) (f : p ≡ start n)
     unfolding counted
     on = let l : start (number xs 0) ≤ length xs = rw (← e, ← f) h in check-silent xs ∙ rw (le-leb (start (number xs 0)) (length xs) l, ← e)
 
-    module _ {a : Pass} (s : silent (ordered xs 4 none (rows n (drop 4 xs))) ≡ passed_of a) where
-      pub open-first : (i q : ℕ) → a ≡ pass.Stop i → q ≡ start i → entries_told (check xs) ≡ opened_of (Refused 21 q)
-      open-first i q g k = silent-refused xs (on ∙ rw (s, g, k))
+    module _ {a : Result (Unit {0}) Refusal} (s : silent (ordered xs 4 none (rows n (drop 4 xs))) ≡ passed_of a) where
+      pub open-first : (e : Refusal) → a ≡ Err e → entries_told (check xs) ≡ opened_of (Err e)
+      open-first e g = silent-refused xs (on ∙ rw (s, g))
 
-      module _ (g : a ≡ pass.All) {b : Ends} (t : closed 4 (start n) (rows n (drop 4 xs)) ≡ ended_of b) where
-        pub open-second : (i q : ℕ) → b ≡ ends.Stop i → q ≡ start i → entries_told (check xs) ≡ opened_of (Refused 22 q)
-        open-second i q k l = silent-refused xs (on ∙ rw (s, g, t, k, l))
+      module _ {u : Unit {0}} (g : a ≡ Ok u) {b : Result ℕ Refusal} (t : closed 4 (start n) (rows n (drop 4 xs)) ≡ ended_of b) where
+        pub open-second : (e : Refusal) → b ≡ Err e → entries_told (check xs) ≡ opened_of (Err e)
+        open-second e k = silent-refused xs (on ∙ rw (s, g, t, k))
 
-        pub open-left : (q : ℕ) → b ≡ ends.At q → (q ≡ length xs → ⊥) → entries_told (check xs) ≡ opened_of (Refused 22 q)
+        pub open-left : (q : ℕ) → b ≡ Ok q → (q ≡ length xs → ⊥) → entries_told (check xs) ≡ opened_of (Err (record { number = 22; place = q }))
         unfolding ended
         open-left q k l = silent-refused xs (on ∙ rw (s, g, t, k, ne_eqb q (length xs) l))
 
-        pub open-all : (q : ℕ) → b ≡ ends.At q → q ≡ length xs → entries_told (check xs) ≡ opened_of (Book n)
+        pub open-all : (q : ℕ) → b ≡ Ok q → q ≡ length xs → entries_told (check xs) ≡ opened_of (Ok n)
         unfolding ended
         open-all q k l = silent-fine xs e (on ∙ rw (s, g, t, k, eq-eqb q (length xs) l))
 

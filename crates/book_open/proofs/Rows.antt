@@ -1,7 +1,7 @@
 -- Laws for one row of the contents: in the file, behind the last, where the body before it ended.
 -- Assumes nothing.
-use Prim.Native.Nat.{ℕ, zero, suc, ◌+◌, ◌*◌, ◌-◌, ◌<◌, ◌≤◌}
-use mathlib.Core.Path.{◌≡◌, refl, sym, ◌∙◌}
+use Prim.Native.Nat.{ℕ, ◌+◌, ◌*◌, ◌<◌, ◌≤◌}
+use mathlib.Core.Path.{◌≡◌, sym, ◌∙◌}
 use mathlib.Core.Bool.{Bool, true, false}
 use mathlib.Core.List.{List}
 use native.Mathlib.Omega.{arith}
@@ -9,14 +9,11 @@ use lib.ListN.{length}
 use lib.Dec.{leb, eqb}
 use borrow.Author.Rules.{rules}
 use borrow.Author.Tests.{le-leb, lt-leb, eq-eqb, ne_eqb}
-use Rattle.book.specs.Names.{order, by_order}
 use Rattle.book.specs.Opened.{name_of, in_file, behind}
 use Rattle.book.specs.Steps.{last_name, row_fits, row_meets, row_end}
 use Rattle.book.specs.Found.{row_at}
-use Rattle.book_rows.specs.Told.{order_by, row_by}
+use Rattle.book_rows.specs.Told.{row_by}
 use Rattle.book_rows.specs.declared.row.Row.{Row}
-use Rattle.book_rows.specs.declared.name.Way.{Way}
-use Rattle.book_rows.specs.declared.name.Way.TheVariants.{Less, Same, More}
 
 -- a row in the file, and where its body ends
 module _ (xs : List ℕ) (i : ℕ) (r : Row) (p : row_by r ≡ row_at xs i) where
@@ -43,31 +40,6 @@ module _ (xs : List ℕ) (i : ℕ) (r : Row) (p : row_by r ≡ row_at xs i) wher
       rw (← p, ← e, eq-eqb a at h, ← f, ← k, l)
 
 pub ruleset rows-read = (rules, file-not, file-is, row_ends, meets-not, meets-is)
-
--- a name behind the last
-behind-by : (xs : List ℕ) (i : ℕ) {a b : List ℕ} (y : Way) → 1 ≤ i → a ≡ name_of xs (row_at xs (i - 1)) → b ≡ name_of xs (row_at xs i) → order a b ≡ order_by y
-    → by_order (order_by y) true false false ≡ behind (last_name xs i) (name_of xs (row_at xs i))
-behind-by xs zero y g p q h = absurd (omega arith)
-behind-by xs (suc j) y g p q h =
-    let z : suc j - 1 ≡ j = omega arith in
-    let k : order (name_of xs (row_at xs j)) (name_of xs (row_at xs (suc j))) ≡ order_by y = rw (p, q, z) at h in
-    rw k
-
-module _ (xs : List ℕ) (i : ℕ) {a b : List ℕ} {y : Way} (g : 1 ≤ i) (p : a ≡ name_of xs (row_at xs (i - 1))) (q : b ≡ name_of xs (row_at xs i)) (h : order a b ≡ order_by y) where
-  pub behind-less : y ≡ Less → true ≡ behind (last_name xs i) (name_of xs (row_at xs i))
-  behind-less k = rw k at (behind-by xs i y g p q h)
-
-  pub behind-same : y ≡ Same → false ≡ behind (last_name xs i) (name_of xs (row_at xs i))
-  behind-same k = rw k at (behind-by xs i y g p q h)
-
-  pub behind_more : y ≡ More → false ≡ behind (last_name xs i) (name_of xs (row_at xs i))
-  behind_more k = rw k at (behind-by xs i y g p q h)
-
-pub behind-none : (xs : List ℕ) (i : ℕ) → i < 1 → true ≡ behind (last_name xs i) (name_of xs (row_at xs i))
-behind-none xs zero h = refl
-behind-none xs (suc i) h = absurd (omega arith)
-
-pub ruleset behind-rows = (rules, behind-none, behind-less, behind-same, behind_more)
 
 -- both tests of 21
 pub fits_both : (xs : List ℕ) (i : ℕ) {t u : Bool} → t ≡ in_file xs (row_at xs i) → t ≡ true → u ≡ behind (last_name xs i) (name_of xs (row_at xs i)) → u ≡ row_fits xs i

@@ -5,15 +5,9 @@ ghost use Rattle.book.specs.Opened.{closed};
 ghost use Rattle.book.specs.Steps.{row_meets, row_end};
 ghost use Rattle.book_open.specs.Told.{ended_of};
 
+use crate::open::Refusal;
 use book_rows::{place_of, row_at};
 use cells::wide;
-
-// Where the bodies end, or the first row that does not follow the one before it.
-#[derive(Clone, Copy)]
-pub enum Ends {
-    At { place: usize },
-    Stop { row: u32 },
-}
 
 // Whether the i-th row passes 22, where the bodies before it end at a place.
 fn row_meets(book: &[u8], at: usize, i: u32) -> bool
@@ -35,19 +29,19 @@ fn row_end(book: &[u8], i: u32) -> usize
     wide(row.at) + 2 * wide(row.size)
 }
 
-// The second pass over n rows.
-pub(crate) fn second_pass(book: &[u8], n: u32) -> Ends
+// Where the bodies of n rows end, or 22 at the first row that does not follow the one before it.
+pub(crate) fn second_pass(book: &[u8], n: u32) -> Result<usize, Refusal>
     ensures { closed 4 (start n) (rows n (drop 4 book.now)) ≡ ended_of result }
 {
     let mut at: usize = place_of(n);
-    let mut i: u32 = 0;
-    while i < n {
-        if row_meets(book, at, i) {
-            at = row_end(book, i);
-            i += 1;
-        } else {
-            return Ends::Stop { row: i };
+    for i in 0..n {
+        if !row_meets(book, at, i) {
+            return Err(Refusal {
+                number: 22,
+                place: place_of(i),
+            });
         }
+        at = row_end(book, i);
     }
-    Ends::At { place: at }
+    Ok(at)
 }

@@ -5,4 +5,4 @@ mod closed;
 mod open;
 mod ordered;
 
-pub use open::{Opened, open_book};
+pub use open::{Refusal, open_book};

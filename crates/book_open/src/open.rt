@@ -3,50 +3,32 @@ ghost use Rattle.std.specs.Prelude.{◌≡◌};
 ghost use Rattle.book.specs.Opened.{check};
 ghost use Rattle.book_open.specs.Told.{entries_told, opened_of};
 
-use crate::closed::{Ends, second_pass};
-use crate::ordered::{Pass, first_pass};
+use crate::closed::second_pass;
+use crate::ordered::first_pass;
 use book_rows::{number_at, place_of};
 
-// A book that is opened, with how many entries; or why and where not.
+// Why a book is refused, by its number, and where.
 #[derive(Clone, Copy)]
-pub enum Opened {
-    Book { entries: u32 },
-    Refused { number: u8, place: usize },
+pub struct Refusal {
+    pub number: u8,
+    pub place: usize,
 }
 
-// A file opened: 21 first, over all rows, then 22.
-pub fn open_book(book: &[u8]) -> Opened
+// A file opened, with how many entries it has: 21 first, over all rows, then 22.
+pub fn open_book(book: &[u8]) -> Result<u32, Refusal>
     ensures { entries_told (check book.now) ≡ opened_of result }
 {
     let n = number_at(book, 0);
     if book.len() < place_of(n) {
-        return Opened::Refused {
+        return Err(Refusal {
             number: 21,
             place: 0,
-        };
+        });
     }
-    let first = first_pass(book, n);
-    match first {
-        Pass::Stop { row } => {
-            return Opened::Refused {
-                number: 21,
-                place: place_of(row),
-            };
-        }
-        Pass::All => {}
+    first_pass(book, n)?;
+    let place = second_pass(book, n)?;
+    if place == book.len() {
+        return Ok(n);
     }
-    let second = second_pass(book, n);
-    match second {
-        Ends::Stop { row } => Opened::Refused {
-            number: 22,
-            place: place_of(row),
-        },
-        Ends::At { place } => {
-            if place == book.len() {
-                Opened::Book { entries: n }
-            } else {
-                Opened::Refused { number: 22, place }
-            }
-        }
-    }
+    Err(Refusal { number: 22, place })
 }

@@ -7,15 +7,9 @@ ghost use Rattle.book.specs.Opened.{name_of, in_file, behind, ordered};
 ghost use Rattle.book.specs.Steps.{silent, last_name, row_fits};
 ghost use Rattle.book_open.specs.Told.{passed_of};
 
-use book_rows::{Way, compare, name_at, row_at};
+use crate::open::Refusal;
+use book_rows::{compare, name_at, place_of, row_at};
 use cells::wide;
-
-// All rows passed, or the first that did not.
-#[derive(Clone, Copy)]
-pub enum Pass {
-    All,
-    Stop { row: u32 },
-}
 
 // Whether the name and the pattern of the i-th row lie in the file.
 fn in_file(book: &[u8], i: u32) -> bool
@@ -35,12 +29,7 @@ fn behind_last(book: &[u8], i: u32) -> bool
     if i < 1 {
         return true;
     }
-    let way = compare(name_at(book, i - 1), name_at(book, i));
-    match way {
-        Way::Less => true,
-        Way::Same => false,
-        Way::More => false,
-    }
+    compare(name_at(book, i - 1), name_at(book, i)).is_lt()
 }
 
 // Whether the i-th row passes 21.
@@ -54,17 +43,17 @@ fn row_fits(book: &[u8], i: u32) -> bool
     }
 }
 
-// The first pass over n rows.
-pub(crate) fn first_pass(book: &[u8], n: u32) -> Pass
+// The first pass over n rows: 21 at the first that does not pass.
+pub(crate) fn first_pass(book: &[u8], n: u32) -> Result<(), Refusal>
     ensures { silent (ordered book.now 4 none (rows n (drop 4 book.now))) ≡ passed_of result }
 {
-    let mut i: u32 = 0;
-    while i < n {
-        if row_fits(book, i) {
-            i += 1;
-        } else {
-            return Pass::Stop { row: i };
+    for i in 0..n {
+        if !row_fits(book, i) {
+            return Err(Refusal {
+                number: 21,
+                place: place_of(i),
+            });
         }
     }
-    Pass::All
+    Ok(())
 }

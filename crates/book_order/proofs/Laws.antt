@@ -2,7 +2,9 @@
 -- Assumes nothing.
 use Prim.Native.Nat.{ℕ, zero, suc, ◌+◌, ◌-◌, ◌<◌, ◌≤◌}
 use mathlib.Core.Path.{◌≡◌, refl, sym, ap, ◌∙◌}
+use mathlib.Core.Bool.{Bool, true, false}
 use mathlib.Core.List.{List, [], ◌∷◌, ◌++◌}
+use Rattle.std.proofs.lemmas.Bool.{false≢true}
 use native.Mathlib.Omega.{arith}
 use native.Mathlib.Nat.{zero-add}
 use native.Mathlib.Numerals.{add-one}
@@ -17,8 +19,9 @@ use Rattle.book.specs.Names.{order, less, same, more}
 use Rattle.book.specs.Given.{entry_at, put_number, numbers_of}
 use Rattle.book.proofs.Numbering.{numbers-long}
 use Rattle.book_rows.specs.Told.{order_by}
-use Rattle.book_rows.specs.declared.name.Way.{Way}
-use Rattle.book_rows.specs.declared.name.Way.TheVariants.{Less, Same, More}
+use Rattle.std.specs.declared.cmp.Ordering.{Ordering}
+use Rattle.std.specs.declared.cmp.Ordering.TheVariants.{Less, Equal, Greater}
+use Rattle.std.specs.Ordering.{is_le}
 use Rattle.book_order.specs.Told.{Spot}
 
 -- 1. the place of a number: it stands behind the first i
@@ -47,23 +50,23 @@ module _ {p r o : List ℕ} {k i : ℕ} (w : Spotting p r o k i) where
         let l = w.long in
         drop-cons (take k o) i 0 (omega arith) ∙ ap (λ (x : ℕ). x ∷ drop (suc i) (take k o)) (get_or-take k o i 0 h ∙ sym (b ∙ rw a))
 
-    module _ {s t : List ℕ} (c : s ≡ (entry_at p r k).name) (d : t ≡ (entry_at p r j).name) {y : Way} (e : order s t ≡ order_by y) where
-      pub spot-less : y ≡ Less → Spot p r o k i
+    module _ {s t : List ℕ} (c : s ≡ (entry_at p r k).name) (d : t ≡ (entry_at p r j).name) where
+      spot-less : order s t ≡ less → Spot p r o k i
       unfolding put_number
-      spot-less g =
-          let f : order (entry_at p r k).name (entry_at p r j).name ≡ less = rw (c, d, g) at e in
+      spot-less e =
+          let f : order (entry_at p r k).name (entry_at p r j).name ≡ less = rw (c, d) at e in
           record { within = omega arith; whole = w.whole ∙ rw (there, f) }
 
-      pub spot-same : y ≡ Same → Spot p r o k i
+      spot-same : order s t ≡ same → Spot p r o k i
       unfolding put_number
-      spot-same g =
-          let f : order (entry_at p r k).name (entry_at p r j).name ≡ same = rw (c, d, g) at e in
+      spot-same e =
+          let f : order (entry_at p r k).name (entry_at p r j).name ≡ same = rw (c, d) at e in
           record { within = omega arith; whole = w.whole ∙ rw (there, f) }
 
-      pub spot-more : y ≡ More → Spotting p r o k (i + 1)
+      spot-more : order s t ≡ more → Spotting p r o k (i + 1)
       unfolding put_number
-      spot-more g =
-          let f : order (entry_at p r k).name (entry_at p r j).name ≡ more = rw (c, d, g) at e in
+      spot-more e =
+          let f : order (entry_at p r k).name (entry_at p r j).name ≡ more = rw (c, d) at e in
           let l = w.long in
           let u : take (suc i) (take k o) ≡ take i (take k o) ++ (j ∷ []) = take-suc (take k o) i 0 (omega arith) ∙ ap (λ (x : ℕ). take i (take k o) ++ (x ∷ [])) (get_or-take k o i 0 h ∙ sym (b ∙ rw a)) in
           record {
@@ -72,7 +75,24 @@ module _ {p r o : List ℕ} {k i : ℕ} (w : Spotting p r o k i) where
             whole = w.whole ∙ rw (there, f, add-one, u) (sym (append_snoc (take i (take k o)) j (put_number p r k (drop (suc i) (take k o)))));
           }
 
-pub ruleset spots = (rules, spot-start, spot-end, spot-less, spot-same, spot-more)
+      spot_at : (y : Ordering) → order s t ≡ order_by y → is_le y ≡ true → Spot p r o k i
+      spot_at Less e g = spot-less e
+      spot_at Equal e g = spot-same e
+      spot_at Greater e g = absurd (false≢true g)
+
+      spot_behind : (y : Ordering) → order s t ≡ order_by y → is_le y ≡ false → Spotting p r o k (i + 1)
+      spot_behind Less e g = absurd (false≢true (sym g))
+      spot_behind Equal e g = absurd (false≢true (sym g))
+      spot_behind Greater e g = spot-more e
+
+      module _ (y : Ordering) (e : order s t ≡ order_by y) {u : Bool} (f : u ≡ is_le y) where
+        pub spot-here : u ≡ true → Spot p r o k i
+        spot-here g = spot_at y e (sym f ∙ g)
+
+        pub spot-past : u ≡ false → Spotting p r o k (i + 1)
+        spot-past g = spot_behind y e (sym f ∙ g)
+
+pub ruleset spots = (rules, spot-start, spot-end, spot-here, spot-past)
 
 -- 2. a number put in at its place
 drop-take : (q k : ℕ) (l : List ℕ) → q ≤ k → drop q (take k l) ≡ take (k - q) (drop q l)

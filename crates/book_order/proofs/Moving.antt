@@ -59,10 +59,11 @@ module _ {old : List ℕ} {p k v : ℕ} {new : List ℕ} {carry j : ℕ} (w : Mo
         carried = e ∙ (u ∙ rw y (sym (get_or-drop p old (j - p) 0 ∙ rw z)));
       }
 
-  pub move-end : {left : List ℕ} → k ≤ j → left ≡ set new j carry → left ≡ sets old p (v ∷ take (k - p) (drop p old))
-  move-end h f =
+  pub move-end : {left : List ℕ} → k ≤ j → left ≡ set new k carry → left ≡ sets old p (v ∷ take (k - p) (drop p old))
+  move-end {left} h f =
       let b = w.within in
       let z : j ≡ k = omega arith in
-      f ∙ (stored ∙ rw z)
+      let g : left ≡ set new j carry = rw z f in
+      g ∙ (stored ∙ rw z)
 
 pub ruleset moves = (rules, move_start, move-more, move-end)

@@ -6,7 +6,7 @@ ghost use Rattle.book.specs.Given.{put_number, numbers_of};
 ghost use Rattle.book_order.specs.Told.{Spot};
 
 use book_given::given_name;
-use book_rows::{Way, compare};
+use book_rows::compare;
 use cells::{at, put_u32, wide};
 
 // The place of the k-th entry's number among the k before it, which stand in order.
@@ -14,20 +14,10 @@ fn find_spot(pool: &[u8], rows: &[u32], order: &[u32], k: u32) -> u32
     requires { k ≤ length order.now }
     ensures { Spot pool.now rows.now order.now k result }
 {
-    let mut i: u32 = 0;
-    while i < k {
+    for i in 0..k {
         let j = at(order, wide(i));
-        let way = compare(given_name(pool, rows, k), given_name(pool, rows, j));
-        match way {
-            Way::Less => {
-                return i;
-            }
-            Way::Same => {
-                return i;
-            }
-            Way::More => {
-                i += 1;
-            }
+        if compare(given_name(pool, rows, k), given_name(pool, rows, j)).is_le() {
+            return i;
         }
     }
     k
@@ -39,14 +29,12 @@ fn insert_at(order: &mut [u32], p: usize, k: usize, v: u32)
     ensures { order.new ≡ sets order.old p (v ∷ take (k - p) (drop p order.old)) }
 {
     let mut carry = v;
-    let mut j = p;
-    while j < k {
+    for j in p..k {
         let next = at(order, j);
         put_u32(order, j, carry);
         carry = next;
-        j += 1;
     }
-    put_u32(order, j, carry);
+    put_u32(order, k, carry);
 }
 
 // The number of the k-th entry put in among those before it.
@@ -65,9 +53,7 @@ pub fn sort_numbers(order: &mut [u32], pool: &[u8], rows: &[u32], n: u32)
     if order.len() < wide(n) {
         return;
     }
-    let mut k: u32 = 0;
-    while k < n {
+    for k in 0..n {
         put_in(order, pool, rows, k);
-        k += 1;
     }
 }

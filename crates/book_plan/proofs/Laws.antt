@@ -3,12 +3,13 @@
 use Prim.Native.Nat.{ℕ, ◌+◌, min, ◌<◌, ◌≤◌}
 use mathlib.Core.Path.{◌≡◌, refl, sym, ap, subst, ◌∙◌}
 use mathlib.Core.Bool.{Bool, true, false}
-use mathlib.Core.List.{List, map}
+use mathlib.Core.List.{List}
 use native.Mathlib.Omega.{arith}
 use lib.ListN.{length, length-map}
-use lib.Dec.{leb, ltb}
+use lib.Dec.{leb}
 use borrow.Author.Rules.{rules}
 use borrow.Author.Tests.{lt-ltb, le-ltb}
+use Rattle.std.specs.Prelude.{Option, None, Some, Result, Err}
 use Rattle.format.specs.Lists.{pick, flat}
 use Rattle.format.specs.Outcome.{Outcome, fine, refused, and_then}
 use Rattle.laws.proofs.Outcomes.{unlike}
@@ -21,25 +22,8 @@ use Rattle.book.proofs.Given.{fitted-by-length, pooled-most}
 use Rattle.book.proofs.Numbering.{numbers-tell, numbers-long, bodies_kept}
 use Rattle.book.proofs.Writing.{book-size}
 use Rattle.book_given.specs.Told.{twice_of}
-use Rattle.book_given.specs.declared.twice.Twice.{Twice}
-use Rattle.book_given.specs.declared.twice.Twice.TheVariants as twice
-use Rattle.book_plan.specs.Told.{summed, fit_of, planned, wrote_of}
-use Rattle.book_plan.specs.declared.plan.Fit.{Fit}
-use Rattle.book_plan.specs.declared.plan.Fit.TheVariants.{Over, End}
-use Rattle.book_plan.specs.declared.plan.Wrote.{Wrote}
-use Rattle.book_plan.specs.declared.plan.Wrote.TheVariants.{Book, Refused}
-
--- the room that is used
-pub room_most : {u : ℕ} (room : ℕ) → u ≡ min room most_bytes → u ≤ most_bytes
-room_most room e = omega arith
-
-pub length_over : (es : List Entry) (n room : ℕ) {u : ℕ} {f : Fit} → u ≡ min room most_bytes → summed es n u ≡ fit_of f → f ≡ Over → summed es n (min room most_bytes) ≡ wrote_of (Refused 24 0)
-length_over es n room a e g = rw (← a) (e ∙ rw g)
-
-pub length-end : (es : List Entry) (n room : ℕ) {u p : ℕ} {f : Fit} → u ≡ min room most_bytes → summed es n u ≡ fit_of f → f ≡ End p → summed es n (min room most_bytes) ≡ wrote_of (Book p)
-length-end es n room a e g = rw (← a) (e ∙ rw g)
-
-pub ruleset lengths = (rules, room_most, length_over, length-end)
+use Rattle.book_plan.specs.Told.{summed, planned, wrote_of}
+use Rattle.book_plan.specs.declared.plan.Refusal.{Refusal}
 
 -- entries that are told in order, without the order
 is-refused : {A : Type 0} (o : Outcome A) (n p : ℕ) → silent o ≡ refused n p → o ≡ refused n p
@@ -67,21 +51,21 @@ in-order-sum p r n room fs h =
     go true = refl
     go false = refl
 
-module _ (p r : List ℕ) (n room : ℕ) {m : ℕ} (e : m ≡ pooled p r 0 n) {t : Twice} (f : silent (in_order_of (given p r 0 m)) ≡ twice_of t) where
-  pub plan-twice : {k : ℕ} → t ≡ twice.At k → planned p r n room ≡ wrote_of (Refused 21 k)
+module _ (p r : List ℕ) (n room : ℕ) {m : ℕ} (e : m ≡ pooled p r 0 n) {t : Option ℕ} (f : silent (in_order_of (given p r 0 m)) ≡ twice_of t) where
+  pub plan-twice : {k : ℕ} → t ≡ Some k → planned p r n room ≡ wrote_of (Err (record { number = 21; place = k }))
   unfolding planned arranged
   plan-twice {k} g =
       let h = is-refused (in_order_of (given p r 0 m)) 21 k (f ∙ rw g) in
       rw (← e, h)
 
-  module _ (g : t ≡ twice.Never) where
-    pub plan-out : m < n → planned p r n room ≡ wrote_of (Refused 21 m)
+  module _ (g : t ≡ None) where
+    pub plan-out : m < n → planned p r n room ≡ wrote_of (Err (record { number = 21; place = m }))
     unfolding planned arranged
     plan-out h =
         let s = is-fine (in_order_of (given p r 0 m)) (f ∙ rw g) in
         rw (← e, s.is, lt-ltb m n h)
 
-    pub plan-all : (w : Wrote) → n ≤ m → summed (given p r 0 n) n (min room most_bytes) ≡ wrote_of w → planned p r n room ≡ wrote_of w
+    pub plan-all : (w : Result ℕ Refusal) → n ≤ m → summed (given p r 0 n) n (min room most_bytes) ≡ wrote_of w → planned p r n room ≡ wrote_of w
     unfolding planned arranged
     plan-all w h k =
         let b = pooled-most p r 0 n in

@@ -9,6 +9,7 @@ use lib.ListN.{length, length-append, length-take, drop}
 use lib.Dec.{leb}
 use borrow.Author.Rules.{rules}
 use borrow.Author.Tests.{le-leb, lt-leb}
+use Rattle.std.specs.Prelude.{None, Some}
 use Rattle.format.specs.Lists.{flat}
 use Rattle.format.specs.Outcome.{fine, refused}
 use Rattle.book.specs.Contents.{part, start}
@@ -16,7 +17,6 @@ use Rattle.book.specs.Entries.{body}
 use Rattle.book.specs.Given.{field_at, entry_at, given, most_bytes}
 use Rattle.book.proofs.Twice.{given-more, given-none}
 use Rattle.book_plan.specs.Told.{summed, fit_of}
-use Rattle.book_plan.specs.declared.plan.Fit.TheVariants.{Over, End}
 
 -- a part's length
 part-most : (xs : List ℕ) (at n : ℕ) → length (part xs at n) ≤ n
@@ -63,7 +63,7 @@ pub sum-start : (p r : List ℕ) {n to : ℕ} → n < 2 ^ 32 → to ≡ start n 
 sum-start p r {n} h e = let z : n - 0 ≡ n = omega arith in record { within = omega arith; sum = rw (z, e); bound = omega arith }
 
 module _ {p r : List ℕ} {n i to room : ℕ} (w : Summing p r n i to) where
-  pub sum_over : room < to → summed (given p r 0 n) n room ≡ fit_of Over
+  pub sum_over : room < to → summed (given p r 0 n) n room ≡ fit_of None
   unfolding summed
   sum_over h =
       let s = w.sum in
@@ -78,7 +78,7 @@ module _ {p r : List ℕ} {n i to room : ℕ} (w : Summing p r n i to) where
     bound = omega arith;
   }
 
-  pub sum-end : n ≤ i → to ≤ room → summed (given p r 0 n) n room ≡ fit_of (End to)
+  pub sum-end : n ≤ i → to ≤ room → summed (given p r 0 n) n room ≡ fit_of (Some to)
   unfolding summed flat
   sum-end h k =
       let s : start n + length (flat body (given p r 0 n)) ≡ to = w.sum ∙ (rw (given-none p r i n h) (omega arith)) in

@@ -4,5 +4,5 @@
 mod plan;
 mod sizes;
 
-pub use plan::{Wrote, plan_book};
+pub use plan::{Refusal, plan_book};
 pub use sizes::{body_length, length_in, name_size, values_size};

@@ -8,6 +8,7 @@ use lib.ListN.{length, take}
 use lib.Seq.{sets, take-take}
 use borrow.Author.Rules.{rules}
 use borrow.Author.Tests.{le-leb, lt-leb}
+use Rattle.std.specs.Prelude.{Option, None, Some, Result, Ok, Err}
 use Rattle.format.specs.Outcome.{Outcome, fine, refused, and_then}
 use Rattle.laws.proofs.Outcomes.{unlike}
 use Rattle.book.specs.Entries.{Entry}
@@ -16,13 +17,9 @@ use Rattle.book.specs.Opened.{check}
 use Rattle.book.specs.Found.{find, room_for, located, opens_at, pattern_at}
 use Rattle.book_find.specs.Told.{found_of}
 use Rattle.book_find.specs.declared.Found.{Found}
-use Rattle.book_find.specs.declared.Found.TheVariants.{At, Missing}
 use Rattle.book_open.specs.Told.{entries_told, opened_of}
-use Rattle.book_open.specs.declared.open.Opened.{Opened}
-use Rattle.book_open.specs.declared.open.Opened.TheVariants as opened
+use Rattle.book_open.specs.declared.open.Refusal.{Refusal}
 use Rattle.book_read.specs.Told.{Copying}
-use Rattle.book_read.specs.declared.Copied.{Copied}
-use Rattle.book_read.specs.declared.Copied.TheVariants.{Pattern, Refused}
 
 -- a part of a book by numbers
 pub values-part : (xs : List ℕ) (place size : ℕ) {k : ℕ} {l : List ℕ} → k ≡ place → l ≡ part xs k size → l ≡ part xs place size
@@ -45,18 +42,18 @@ pub ruleset laying = (rules, part-laid)
 
 -- a pattern that was found, and the room for it
 module _ (xs values masks : List ℕ) (place size : ℕ) where
-  over : min (length values) (length masks) < size → Copying xs (room_for (min (length values) (length masks)) (record { at = place; size = size })) values masks (Refused 24 0) values masks
+  over : min (length values) (length masks) < size → Copying xs (room_for (min (length values) (length masks)) (record { at = place; size = size })) values masks (Err (record { number = 24; place = 0 })) values masks
   over h = let z = lt-leb size (min (length values) (length masks)) h in record { answer = rw z; values-hold = rw z; masks-hold = rw z }
 
-  pub room-few-values : {k : ℕ} → k ≡ size → length values < k → Copying xs (room_for (min (length values) (length masks)) (record { at = place; size = size })) values masks (Refused 24 0) values masks
+  pub room-few-values : {k : ℕ} → k ≡ size → length values < k → Copying xs (room_for (min (length values) (length masks)) (record { at = place; size = size })) values masks (Err (record { number = 24; place = 0 })) values masks
   room-few-values a h = over (omega arith)
 
-  pub room-few-masks : {k : ℕ} → k ≡ size → length masks < k → Copying xs (room_for (min (length values) (length masks)) (record { at = place; size = size })) values masks (Refused 24 0) values masks
+  pub room-few-masks : {k : ℕ} → k ≡ size → length masks < k → Copying xs (room_for (min (length values) (length masks)) (record { at = place; size = size })) values masks (Err (record { number = 24; place = 0 })) values masks
   room-few-masks a h = over (omega arith)
 
   pub room-all : {k m : ℕ} {new_values new_masks : List ℕ} → k ≡ size → k ≤ length values → m ≡ size → m ≤ length masks
       → new_values ≡ sets values 0 (part xs place size) → new_masks ≡ sets masks 0 (part xs (place + size) size)
-      → Copying xs (room_for (min (length values) (length masks)) (record { at = place; size = size })) values masks (Pattern size) new_values new_masks
+      → Copying xs (room_for (min (length values) (length masks)) (record { at = place; size = size })) values masks (Ok size) new_values new_masks
   unfolding pattern_at
   room-all a h b l p q =
       let y : size ≤ min (length values) (length masks) = omega arith in
@@ -66,13 +63,13 @@ module _ (xs values masks : List ℕ) (place size : ℕ) where
 pub ruleset rooms = (rules, room-few-values, room-few-masks, room-all)
 
 -- a pattern by its name
-module _ (xs w values masks : List ℕ) {r : Found} (e : find xs w ≡ found_of r) where
-  pub copy-missing : r ≡ Missing → Copying xs (located xs w (min (length values) (length masks))) values masks (Refused 23 0) values masks
+module _ (xs w values masks : List ℕ) {r : Option Found} (e : find xs w ≡ found_of r) where
+  pub copy-missing : r ≡ None → Copying xs (located xs w (min (length values) (length masks))) values masks (Err (record { number = 23; place = 0 })) values masks
   unfolding located
   copy-missing g = record { answer = rw (e, g); values-hold = rw (e, g); masks-hold = rw (e, g) }
 
-  pub copy-found : {place size : ℕ} {c : Copied} {new_values new_masks : List ℕ} → r ≡ At place size
-      → Copying xs (room_for (min (length values) (length masks)) (record { at = place; size = size })) values masks c new_values new_masks
+  pub copy-found : {f : Found} {c : Result ℕ Refusal} {new_values new_masks : List ℕ} → r ≡ Some f
+      → Copying xs (room_for (min (length values) (length masks)) (record { at = f.place; size = f.size })) values masks c new_values new_masks
       → Copying xs (located xs w (min (length values) (length masks))) values masks c new_values new_masks
   unfolding located
   copy-found g k = rw (e, g) k
@@ -80,16 +77,16 @@ module _ (xs w values masks : List ℕ) {r : Found} (e : find xs w ≡ found_of 
 pub ruleset copying = (rules, copy-missing, copy-found)
 
 -- a file that is opened first
-module _ (xs w values masks : List ℕ) {r : Opened} (e : entries_told (check xs) ≡ opened_of r) where
-  pub fetch-refused : {n p : ℕ} → r ≡ opened.Refused n p → Copying xs (opens_at xs w (min (length values) (length masks))) values masks (Refused n p) values masks
+module _ (xs w values masks : List ℕ) {r : Result ℕ Refusal} (e : entries_told (check xs) ≡ opened_of r) where
+  pub fetch-refused : {s : Refusal} → r ≡ Err s → Copying xs (opens_at xs w (min (length values) (length masks))) values masks (Err s) values masks
   unfolding opens_at
-  fetch-refused {n} {p} g = let h = is-refused (check xs) (e ∙ rw g) in record { answer = rw h; values-hold = rw h; masks-hold = rw h }
+  fetch-refused {s} g = let h = is-refused (check xs) (e ∙ rw g) in record { answer = rw h; values-hold = rw h; masks-hold = rw h }
     where
-      is-refused : (o : Outcome (List Entry)) → entries_told o ≡ refused n p → o ≡ refused n p
-      is-refused (fine es) h = unlike n p (length es) (sym h)
+      is-refused : (o : Outcome (List Entry)) → entries_told o ≡ refused s.number s.place → o ≡ refused s.number s.place
+      is-refused (fine es) h = unlike s.number s.place (length es) (sym h)
       is-refused (refused m q) h = cc
 
-  pub fetch-opened : {n : ℕ} {c : Copied} {new_values new_masks : List ℕ} → r ≡ opened.Book n
+  pub fetch-opened : {n : ℕ} {c : Result ℕ Refusal} {new_values new_masks : List ℕ} → r ≡ Ok n
       → Copying xs (located xs w (min (length values) (length masks))) values masks c new_values new_masks
       → Copying xs (opens_at xs w (min (length values) (length masks))) values masks c new_values new_masks
   unfolding opens_at

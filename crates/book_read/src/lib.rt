@@ -7,17 +7,10 @@ ghost use Rattle.book.specs.Contents.{part};
 ghost use Rattle.book.specs.Found.{room_for, located, opens_at};
 ghost use Rattle.book_read.specs.Told.{Copying};
 
-use book_find::{Found, find_name};
-use book_open::{Opened, open_book};
+use book_find::find_name;
+use book_open::{Refusal, open_book};
 use book_rows::part_of;
 use cells::{copy_bytes, wide};
-
-// How many positions were copied; or why nothing was: 21, 22, 23 or 24, and its place.
-#[derive(Clone, Copy)]
-pub enum Copied {
-    Pattern { size: u32 },
-    Refused { number: u8, place: usize },
-}
 
 // The values of a pattern that was found, as a part of the book.
 pub fn values_of<'a>(book: &'a [u8], place: u32, size: u32) -> &'a [u8]
@@ -47,48 +40,60 @@ fn lay_masks(book: &[u8], place: u32, size: u32, masks: &mut [u8])
     copy_bytes(masks, 0, masks_of(book, place, size), wide(size));
 }
 
-// A pattern that was found, copied into lent values and masks, or 24. A refusal leaves both as they were.
-pub fn copy_found(book: &[u8], place: u32, size: u32, values: &mut [u8], masks: &mut [u8]) -> Copied
+// A pattern that was found, copied into lent values and masks: how many positions, or 24. A refusal leaves both as they were.
+pub fn copy_found(
+    book: &[u8],
+    place: u32,
+    size: u32,
+    values: &mut [u8],
+    masks: &mut [u8],
+) -> Result<u32, Refusal>
     ensures { Copying book.now (room_for (min (length values.old) (length masks.old)) (record { at = place; size = size })) values.old masks.old result values.new masks.new }
 {
     if values.len() < wide(size) {
-        return Copied::Refused {
+        return Err(Refusal {
             number: 24,
             place: 0,
-        };
+        });
     }
     if masks.len() < wide(size) {
-        return Copied::Refused {
+        return Err(Refusal {
             number: 24,
             place: 0,
-        };
+        });
     }
     lay_values(book, place, size, values);
     lay_masks(book, place, size, masks);
-    Copied::Pattern { size }
+    Ok(size)
 }
 
 // The pattern of a name in a book that was opened: 23, then 24.
-pub fn copy_pattern(book: &[u8], name: &[u8], values: &mut [u8], masks: &mut [u8]) -> Copied
+pub fn copy_pattern(
+    book: &[u8],
+    name: &[u8],
+    values: &mut [u8],
+    masks: &mut [u8],
+) -> Result<u32, Refusal>
     ensures { Copying book.now (located book.now name.now (min (length values.old) (length masks.old))) values.old masks.old result values.new masks.new }
 {
-    let found = find_name(book, name);
-    match found {
-        Found::Missing => Copied::Refused {
+    let Some(found) = find_name(book, name) else {
+        return Err(Refusal {
             number: 23,
             place: 0,
-        },
-        Found::At { place, size } => copy_found(book, place, size, values, masks),
-    }
+        });
+    };
+    copy_found(book, found.place, found.size, values, masks)
 }
 
 // The same for any file: it is opened first, 21 and 22.
-pub fn fetch_pattern(book: &[u8], name: &[u8], values: &mut [u8], masks: &mut [u8]) -> Copied
+pub fn fetch_pattern(
+    book: &[u8],
+    name: &[u8],
+    values: &mut [u8],
+    masks: &mut [u8],
+) -> Result<u32, Refusal>
     ensures { Copying book.now (opens_at book.now name.now (min (length values.old) (length masks.old))) values.old masks.old result values.new masks.new }
 {
-    let opened = open_book(book);
-    match opened {
-        Opened::Refused { number, place } => Copied::Refused { number, place },
-        Opened::Book { entries: _ } => copy_pattern(book, name, values, masks),
-    }
+    open_book(book)?;
+    copy_pattern(book, name, values, masks)
 }

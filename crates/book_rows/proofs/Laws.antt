@@ -2,21 +2,48 @@
 -- Assumes nothing.
 use Prim.Native.Nat.{ℕ, min, ◌+◌, ◌*◌, ◌-◌, ◌<◌}
 use mathlib.Core.Path.{◌≡◌, refl, sym, ◌∙◌}
-use mathlib.Core.Bool.{false}
-use mathlib.Core.List.{List}
+use mathlib.Core.Bool.{Bool, true, false}
+use mathlib.Core.List.{List, [], ◌∷◌}
 use native.Mathlib.Omega.{arith}
 use native.Mathlib.Nat.{le_of_lt}
 use lib.ListN.{length, take, drop, drop_of_length-le}
 use lib.Seq.{drop-drop}
+use lib.Dec.{eqb, ltb}
 use borrow.Author.Rules.{rules}
+use borrow.Author.Tests.{eqb-true, eqb-false, ltb-false, lt-ltb, le-ltb}
+use Rattle.std.specs.declared.cmp.Ordering.{Ordering}
+use Rattle.std.specs.Ordering.{nat_cmp, ordering_then}
+use Rattle.std.specs.Cmp.Lexicographic.{slice_cmp}
+use Rattle.format.specs.Lists.{pick}
 use Rattle.format.specs.Number.{join, little}
 use Rattle.laws.proofs.Parts.{part_end}
 use Rattle.book.specs.Contents.{number, part, row_of}
+use Rattle.book.specs.Names.{Order, less, more, order}
 use Rattle.book.specs.Opened.{name_of}
 use Rattle.book.specs.Found.{row_at}
 use Rattle.book.proofs.Laws.{number-joined, part-clipped}
-use Rattle.book_rows.specs.Told.{row_by}
+use Rattle.book_rows.specs.Told.{order_by, row_by}
 use Rattle.book_rows.specs.declared.row.Row.{Row}
+
+-- names in std's order are names in the order of a book
+by_heads : (x y : ℕ) {r : Order} (s : Ordering) → r ≡ order_by s → pick (ltb x y) less (pick (ltb y x) more r) ≡ order_by (ordering_then (nat_cmp x y) s)
+by_heads x y {r} s e = go (ltb x y) (eqb x y) refl refl
+  where
+    go : (t u : Bool) → ltb x y ≡ t → eqb x y ≡ u → pick (ltb x y) less (pick (ltb y x) more r) ≡ order_by (ordering_then (nat_cmp x y) s)
+    go true u p q = rw p
+    go false true p q =
+        let h : x ≡ y = eqb-true x y q in
+        rw (p, q, le-ltb y x (omega arith)) e
+    go false false p q =
+        let h : y < x = omega (arith, ltb-false x y p, eqb-false x y q) in
+        rw (p, q, lt-ltb y x h)
+
+pub ordered_as : (a b : List ℕ) → order a b ≡ order_by (slice_cmp nat_cmp a b)
+unfolding order
+ordered_as [] [] = refl
+ordered_as [] (y ∷ b) = refl
+ordered_as (x ∷ a) [] = refl
+ordered_as (x ∷ a) (y ∷ b) = by_heads x y (slice_cmp nat_cmp a b) (ordered_as a b)
 
 -- a part, cut at the end
 pub part_cut : (xs : List ℕ) (at n : ℕ) {a w m : ℕ} → a ≡ min at (length xs) → w ≡ n → m ≡ min w (length xs - a) → take (a + m - a) (drop a xs) ≡ part xs at n

@@ -4,5 +4,5 @@
 mod name;
 mod row;
 
-pub use name::{Way, compare, part_of};
+pub use name::{compare, part_of};
 pub use row::{Row, name_at, number_at, place_of, row_at};

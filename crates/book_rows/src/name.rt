@@ -5,6 +5,7 @@ ghost use Rattle.book.specs.Names.{order};
 ghost use Rattle.book_rows.specs.Told.{order_by};
 
 use cells::wide;
+use std::cmp::Ordering;
 
 // A place, or the end where it lies behind that.
 fn within(place: usize, end: usize) -> usize
@@ -23,35 +24,9 @@ pub fn part_of<'a>(bytes: &'a [u8], at: usize, n: u32) -> &'a [u8]
     &bytes[start..end]
 }
 
-// How a name stands to another: before it, the same, behind it.
-#[derive(Clone, Copy)]
-pub enum Way {
-    Less,
-    Same,
-    More,
-}
-
-// Two names compared byte by byte; a name stands before every longer one that begins with it.
-pub fn compare(a: &[u8], b: &[u8]) -> Way
+// Two names compared byte by byte: how the first stands to the second; a name stands before every longer one that begins with it.
+pub fn compare(a: &[u8], b: &[u8]) -> Ordering
     ensures { order a.now b.now ≡ order_by result }
 {
-    let mut i: usize = 0;
-    while i < a.len() {
-        if b.len() <= i {
-            return Way::More;
-        }
-        let x = a[i];
-        let y = b[i];
-        if x < y {
-            return Way::Less;
-        }
-        if y < x {
-            return Way::More;
-        }
-        i += 1;
-    }
-    if i < b.len() {
-        return Way::Less;
-    }
-    Way::Same
+    a.cmp(b)
 }

@@ -10,6 +10,7 @@ use lib.ListN.{length, length-map}
 use lib.Seq.{sets}
 use borrow.Author.Rules.{rules}
 use borrow.Author.Tests.{le-leb, leb-true, lt-leb}
+use Rattle.std.specs.Prelude.{Result, Ok, Err}
 use Rattle.format.specs.Outcome.{Outcome, fine, refused, and_then}
 use Rattle.laws.proofs.Outcomes.{chain, passed, unlike}
 use Rattle.book.specs.Entries.{Entry}
@@ -21,8 +22,7 @@ use Rattle.book.proofs.Numbering.{numbers-tell, numbers-long}
 use Rattle.book.proofs.Numbers.{both}
 use Rattle.book.proofs.Sorting.{inside}
 use Rattle.book_plan.specs.Told.{planned, wrote_of}
-use Rattle.book_plan.specs.declared.plan.Wrote.{Wrote}
-use Rattle.book_plan.specs.declared.plan.Wrote.TheVariants.{Book, Refused}
+use Rattle.book_plan.specs.declared.plan.Refusal.{Refusal}
 use Rattle.book_told.specs.Told.{Written, answer_to}
 
 -- what is planned
@@ -54,19 +54,19 @@ plan-of p r n room long h =
 
 -- `plan_lent`
 module _ (p r : List ℕ) (n numbers room : ℕ) where
-  pub few-rows : {u : ℕ} → u ≡ n → length r < 5 * u → answer_to p r n numbers room ≡ wrote_of (Refused 1 0)
+  pub few-rows : {u : ℕ} → u ≡ n → length r < 5 * u → answer_to p r n numbers room ≡ wrote_of (Err (record { number = 1; place = 0 }))
   unfolding answer_to packed
   few-rows e h = let z = lt-leb (5 * n) (length r) (omega arith) in rw z
 
   module _ {u : ℕ} (a : u ≡ n) (b : 5 * u ≤ length r) where
-    pub few-numbers : {v : ℕ} → v ≡ n → numbers < v → answer_to p r n numbers room ≡ wrote_of (Refused 1 0)
+    pub few-numbers : {v : ℕ} → v ≡ n → numbers < v → answer_to p r n numbers room ≡ wrote_of (Err (record { number = 1; place = 0 }))
     unfolding answer_to packed
     few-numbers e h =
         let y = le-leb (5 * n) (length r) (omega arith) in
         let z = lt-leb n numbers (omega arith) in
         rw (y, z)
 
-    pub as-planned : {v : ℕ} → v ≡ n → v ≤ numbers → (w : Wrote) → planned p r n room ≡ wrote_of w → answer_to p r n numbers room ≡ wrote_of w
+    pub as-planned : {v : ℕ} → v ≡ n → v ≤ numbers → (w : Result ℕ Refusal) → planned p r n room ≡ wrote_of w → answer_to p r n numbers room ≡ wrote_of w
     unfolding answer_to packed planned
     as-planned e h w g =
         let y = le-leb (5 * n) (length r) (omega arith) in
@@ -87,25 +87,25 @@ module _ (p r : List ℕ) (n numbers room long : ℕ) (h : answer_to p r n numbe
       let t = passed (leb (5 * n) (length r) && leb n numbers) inner 1 0 c.value c.first in
       (rw t.0, rw t.1 c.second, leb-true n numbers (both (leb (5 * n) (length r)) (leb n numbers) t.0).1)
 
-pub plan-small : (p r : List ℕ) (n numbers room : ℕ) {long : ℕ} {w : Wrote} → answer_to p r n numbers room ≡ wrote_of w → w ≡ Book long → small_rows (rows_for (start n) (map (entry_at p r) (numbers_of p r n))) ≡ true
+pub plan-small : (p r : List ℕ) (n numbers room : ℕ) {long : ℕ} {w : Result ℕ Refusal} → answer_to p r n numbers room ≡ wrote_of w → w ≡ Ok long → small_rows (rows_for (start n) (map (entry_at p r) (numbers_of p r n))) ≡ true
 plan-small p r n numbers room {long} e g = let plan = plan-of p r n room long (answered p r n numbers room long (e ∙ rw g)).1 in rw plan.told plan.small
 
-pub plan-room : (p r : List ℕ) (n numbers room : ℕ) {long : ℕ} {w : Wrote} → answer_to p r n numbers room ≡ wrote_of w → w ≡ Book long → n ≤ numbers
+pub plan-room : (p r : List ℕ) (n numbers room : ℕ) {long : ℕ} {w : Result ℕ Refusal} → answer_to p r n numbers room ≡ wrote_of w → w ≡ Ok long → n ≤ numbers
 plan-room p r n numbers room {long} e g = (answered p r n numbers room long (e ∙ rw g)).2
 
-module _ (p r : List ℕ) (n : ℕ) (out order : List ℕ) {w : Wrote} (e : answer_to p r n (length order) (length out) ≡ wrote_of w) where
-  pub write-refused : {m q : ℕ} → w ≡ Refused m q → Written p r n out order (Refused m q) out order
+module _ (p r : List ℕ) (n : ℕ) (out order : List ℕ) {w : Result ℕ Refusal} (e : answer_to p r n (length order) (length out) ≡ wrote_of w) where
+  pub write-refused : {s : Refusal} → w ≡ Err s → Written p r n out order (Err s) out order
   unfolding answer_to
-  write-refused {m} {q} g =
+  write-refused {s} g =
       let h = refused-whole (packed p r n (length order) (length out)) (e ∙ rw g) in
       record { answer = rw h; bytes-hold = rw h; numbers-hold = rw h }
     where
-      refused-whole : (o : Outcome (List ℕ)) → and_then o (λ b. fine (length b)) ≡ refused m q → o ≡ refused m q
-      refused-whole (fine x) h = unlike m q (length x) (sym h)
+      refused-whole : (o : Outcome (List ℕ)) → and_then o (λ b. fine (length b)) ≡ refused s.number s.place → o ≡ refused s.number s.place
+      refused-whole (fine x) h = unlike s.number s.place (length x) (sym h)
       refused-whole (refused x y) h = cc
 
-  pub write_done : {long : ℕ} {new_out new_order : List ℕ} → w ≡ Book long → new_order ≡ sets order 0 (numbers_of p r n) → new_out ≡ sets out 0 (book_of (map (entry_at p r) (numbers_of p r n)))
-      → Written p r n out order (Book long) new_out new_order
+  pub write_done : {long : ℕ} {new_out new_order : List ℕ} → w ≡ Ok long → new_order ≡ sets order 0 (numbers_of p r n) → new_out ≡ sets out 0 (book_of (map (entry_at p r) (numbers_of p r n)))
+      → Written p r n out order (Ok long) new_out new_order
   unfolding answer_to
   write_done {long} g s f =
       let a = answered p r n (length order) (length out) long (e ∙ rw g) in

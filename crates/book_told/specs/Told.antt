@@ -1,11 +1,11 @@
 -- What the lent bytes and numbers hold after a book was written.
 -- Assumes nothing.
-use Rattle.std.specs.Prelude.{ℕ, ◌≡◌, List, length}
+use Rattle.std.specs.Prelude.{ℕ, ◌≡◌, List, length, Result}
 use Rattle.std.proofs.lemmas.List.Edits.{sets}
 use Rattle.format.specs.Outcome.{Outcome, fine, refused, and_then}
 use Rattle.book.specs.Given.{packed, numbers_of}
 use Rattle.book_plan.specs.Told.{wrote_of}
-use Rattle.book_plan.specs.declared.plan.Wrote.{Wrote}
+use Rattle.book_plan.specs.declared.plan.Refusal.{Refusal}
 
 -- what is answered: how long the packed book is, or its refusal
 unfoldable pub answer_to : List ℕ → List ℕ → (n numbers room : ℕ) → Outcome ℕ
@@ -22,7 +22,7 @@ numbers_after old js (fine b) = sets old 0 js
 numbers_after old js (refused n p) = old
 
 -- the answer, the lent bytes and the lent numbers, by what is packed
-pub record Written (pool rows : List ℕ) (n : ℕ) (out order : List ℕ) (r : Wrote) (new_out new_order : List ℕ) : Type 0 where
+pub record Written (pool rows : List ℕ) (n : ℕ) (out order : List ℕ) (r : Result ℕ Refusal) (new_out new_order : List ℕ) : Type 0 where
   pub answer : and_then (packed pool rows n (length order) (length out)) (λ b. fine (length b)) ≡ wrote_of r
   pub bytes-hold : new_out ≡ bytes_after out (packed pool rows n (length order) (length out))
   pub numbers-hold : new_order ≡ numbers_after order (numbers_of pool rows n) (packed pool rows n (length order) (length out))

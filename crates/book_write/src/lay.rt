@@ -45,11 +45,9 @@ fn put_contents(out: &mut [u8], pool: &[u8], rows: &[u32], order: &[u32], n: u32
     ensures { out.new ≡ sets out.old 4 (flat row_bytes (rows_for (start n) (listed pool.now rows.now order.now 0 n))) }
 {
     let mut to: usize = 4 + 16 * wide(n);
-    let mut i: u32 = 0;
-    while i < n {
+    for i in 0..n {
         put_nth_row(out, pool, rows, order, i, to);
         to = nth_end(pool, rows, order, i, to);
-        i += 1;
     }
 }
 
@@ -59,11 +57,9 @@ fn put_bodies(out: &mut [u8], pool: &[u8], rows: &[u32], order: &[u32], n: u32)
     ensures { out.new ≡ sets out.old (start n) (flat body (listed pool.now rows.now order.now 0 n)) }
 {
     let mut to: usize = 4 + 16 * wide(n);
-    let mut i: u32 = 0;
-    while i < n {
+    for i in 0..n {
         put_nth_body(out, pool, rows, order, i, to);
         to = nth_end(pool, rows, order, i, to);
-        i += 1;
     }
 }
 

@@ -8,7 +8,7 @@ ghost use Rattle.book_told.specs.Told.{Written};
 
 use crate::lay::put_book;
 use book_order::sort_numbers;
-use book_plan::Wrote;
+use book_plan::Refusal;
 use book_told::plan_lent;
 
 // The numbers of n entries in order of names, and the book of the entries.
@@ -22,15 +22,16 @@ fn write_sorted(out: &mut [u8], order: &mut [u32], pool: &[u8], rows: &[u32], n:
 }
 
 // n entries given in any order as a book in the lent bytes, and their numbers in order of names in the lent numbers: 1, 21, 24.
-pub fn write_book(out: &mut [u8], order: &mut [u32], pool: &[u8], rows: &[u32], n: u32) -> Wrote
+pub fn write_book(
+    out: &mut [u8],
+    order: &mut [u32],
+    pool: &[u8],
+    rows: &[u32],
+    n: u32,
+) -> Result<usize, Refusal>
     ensures { Written pool.now rows.now n out.old order.old result out.new order.new }
 {
-    let plan = plan_lent(pool, rows, n, order.len(), out.len());
-    match plan {
-        Wrote::Refused { number, place } => Wrote::Refused { number, place },
-        Wrote::Book { length } => {
-            write_sorted(out, order, pool, rows, n);
-            Wrote::Book { length }
-        }
-    }
+    let length = plan_lent(pool, rows, n, order.len(), out.len())?;
+    write_sorted(out, order, pool, rows, n);
+    Ok(length)
 }

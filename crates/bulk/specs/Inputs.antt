@@ -1,10 +1,9 @@
 -- What was read into a room.
 -- Assumes nothing.
-use Rattle.std.specs.Prelude.{ℕ, ◌≤◌}
-use Rattle.bulk.specs.declared.Input.{Input}
-use Rattle.bulk.specs.declared.Input.TheVariants.{Text, Failed}
+use Rattle.std.specs.Prelude.{ℕ, ◌≤◌, Result, Ok, Err}
+use Rattle.host.specs.declared.failure.Failure.{Failure}
 
 -- no more than the room takes
-abbrev pub Within : Input → ℕ → Type 0
-Within (Text n) room = n ≤ room
-Within (Failed why) room = Unit {0}
+abbrev pub Within : Result ℕ Failure → ℕ → Type 0
+Within (Ok n) room = n ≤ room
+Within (Err why) room = Unit {0}

@@ -7,67 +7,35 @@ ghost use Rattle.bulk.specs.Inputs.{Within};
 use host::Failure;
 use std::io::{ErrorKind, Read};
 
-// What one read gives: bytes, the end, or an error.
-#[derive(Clone, Copy)]
-enum Turn {
-    Bytes(usize),
-    End,
-    Failed(Failure),
-}
-
-// All that there is to read, or all that the room takes; or an error.
-#[derive(Clone, Copy)]
-pub enum Input {
-    Text(usize),
-    Failed(Failure),
-}
-
-// Reads once. A read that a signal broke off gives no bytes and is no error.
-fn read_once(reader: &mut impl Read, room: &mut [u8]) -> Turn {
+// Reads once, and answers how many bytes came, or none at the end. A read that a signal broke off gives no bytes and is no error.
+fn read_once(reader: &mut impl Read, room: &mut [u8]) -> Result<Option<usize>, Failure> {
     match reader.read(room) {
-        Ok(n) => {
-            if n == 0 {
-                return Turn::End;
-            }
-            Turn::Bytes(n)
-        }
-        Err(e) => {
-            if e.kind() == ErrorKind::Interrupted {
-                return Turn::Bytes(0);
-            }
-            Turn::Failed(host::of_error(&e))
-        }
+        Ok(0) => Ok(None),
+        Ok(n) => Ok(Some(n)),
+        Err(e) if e.kind() == ErrorKind::Interrupted => Ok(Some(0)),
+        Err(e) => Err(host::of_error(&e)),
     }
 }
 
-// Reads from a place of the room on, and answers how many bytes came.
-fn read_from(reader: &mut impl Read, room: &mut [u8], at: usize) -> Turn {
+// Reads from a place of the room on; a full room is the end too.
+fn read_from(reader: &mut impl Read, room: &mut [u8], at: usize) -> Result<Option<usize>, Failure> {
     if room.len() <= at {
-        return Turn::End;
+        return Ok(None);
     }
     read_once(reader, &mut room[at..])
 }
 
-// Reads to the end of the input or of the room. The count of turns, which no input uses up, is
-// there since a proved loop has to end.
-pub fn fill(reader: &mut impl Read, room: &mut [u8]) -> Input
+// Reads to the end of the input or of the room, and answers how many bytes came. The count of turns, which no input
+// uses up, is there since a proved loop has to end.
+pub fn fill(reader: &mut impl Read, room: &mut [u8]) -> Result<usize, Failure>
     ensures { Within result (length room.old) }
 {
-    let mut turns = u64::MAX;
     let mut n = 0;
-    while 0 < turns {
-        match read_from(reader, room, n) {
-            Turn::Bytes(more) => {
-                n = sink::end_of(n, more, room.len());
-            }
-            Turn::End => {
-                return Input::Text(n);
-            }
-            Turn::Failed(why) => {
-                return Input::Failed(why);
-            }
+    for _ in 0..u64::MAX {
+        match read_from(reader, room, n)? {
+            Some(more) => n = sink::end_of(n, more, room.len()),
+            None => return Ok(n),
         }
-        turns -= 1;
     }
-    Input::Text(n)
+    Ok(n)
 }

@@ -1,58 +1,14 @@
 -- The laws of bytes joined, and what a number that bytes make tells of them.
 -- Assumes nothing.
-use Prim.Native.Nat.{ℕ, ◌+◌, ◌*◌, ◌<◌, ◌≤◌, ◌^◌, ◌%◌}
+use Prim.Native.Nat.{ℕ, ◌<◌, ◌≤◌}
 use mathlib.Core.Path.{◌≡◌, refl, sym, ◌∙◌}
 use mathlib.Core.Bool.{Bool, true, false}
 use native.Mathlib.Omega.{arith}
-use lib.Dec.{lit≤, ltb}
 use borrow.Author.Rules.{rules}
 use borrow.Author.Tests.{lt-ltb, le-ltb}
 use Rattle.scan.proofs.Laws.Tests.{by_order}
-use Rattle.joining.proofs.Shift.{moved_up}
 use Rattle.joined_bytes.specs.Steps.{join_step}
 use Rattle.byte_joins.specs.Joins.{two_joined, three_joined}
-
--- `join_two`, `join_third`
-module _ (v c : ℕ) (l : v < 65536) (k : c < 256) where
-  up : v * 256 % 2 ^ 64 ≡ v * 256
-  up = moved_up 64 8 (lit≤ tt) (omega arith)
-
-  above : c * 256 % 2 ^ 64 ≡ c * 256
-  above = moved_up 64 8 (lit≤ tt) (omega arith)
-
-  far : c * 65536 % 2 ^ 64 ≡ c * 65536
-  far = moved_up 64 16 (lit≤ tt) (omega arith)
-
-  module _ {big : Bool} where
-    pub third-big : big ≡ true → v * 256 % 2 ^ 64 + c ≡ join_step big v 65536 c
-    unfolding join_step
-    third-big e = rw (e, up)
-
-    pub third-little : big ≡ false → v + c * 65536 % 2 ^ 64 ≡ join_step big v 65536 c
-    unfolding join_step
-    third-little e = rw (e, far) (omega arith)
-
-  pub third-low : v * 256 % 2 ^ 64 + c < 16777216
-  third-low = omega (arith, up)
-
-  pub third-high : v + c * 65536 % 2 ^ 64 < 16777216
-  third-high = omega (arith, far)
-
-module _ (a b : ℕ) (l : a < 256) (k : b < 256) where
-  module _ {big : Bool} where
-    pub two-big : big ≡ true → a * 256 % 2 ^ 64 + b ≡ join_step big a 256 b
-    unfolding join_step
-    two-big e = rw (e, up a b (omega arith) k)
-
-    pub two-little : big ≡ false → a + b * 256 % 2 ^ 64 ≡ join_step big a 256 b
-    unfolding join_step
-    two-little e = rw (e, above a b (omega arith) k) (omega arith)
-
-  pub two-low : a * 256 % 2 ^ 64 + b < 65536
-  two-low = omega (arith, up a b (omega arith) k)
-
-  pub two-high : a + b * 256 % 2 ^ 64 < 65536
-  two-high = omega (arith, above a b (omega arith) k)
 
 -- `two_joined`
 module _ (big : Bool) (x y : ℕ) where
@@ -106,4 +62,4 @@ module _ (big : Bool) (a b c : ℕ) where
       by_order 255 b (λ m. absurd (let z : r ≡ 16777216 = e ∙ sym (three-one l m) in omega arith))
       (λ m. by_order 255 c (λ k. absurd (let z : r ≡ 16777216 = e ∙ sym (three-two l m k) in omega arith)) (λ k. (l, m, k, e ∙ sym (three-is l m k refl refl)))))
 
-pub ruleset joining = (rules, two-big, two-little, third-big, third-little, two-low, two-high, third-low, third-high, two_none, two-half, two_is, three-none, three-one, three-two, three-is)
+pub ruleset joining = (rules, two_none, two-half, two_is, three-none, three-one, three-two, three-is)

@@ -8,27 +8,26 @@ use lib.Dec.{leb}
 use borrow.Author.Rules.{rules}
 use borrow.Author.Tests.{le-leb, lt-leb, leb-true, leb-false}
 use Rattle.difference.specs.Rows.{change_columns}
-use Rattle.change_answer.specs.Answer.{told_of}
+use Rattle.std.specs.Prelude.{Ok, Err}
+use Rattle.change_answer.specs.Answer.{Told, refused_of, side_of, told_of}
 use Rattle.change_answer.specs.Numbers.{changed_numbers}
-use Rattle.change_answer.specs.declared.Told.{Told}
-use Rattle.change_answer.specs.declared.Told.TheVariants.{NewerRefused, OlderRefused, Refused, Rows}
-use Rattle.change_answer.specs.declared.ChangedNumbers.{ChangedNumbers}
+use Rattle.change_answer.specs.declared.Whose.{Whose}
+use Rattle.change_answer.specs.declared.Whose.TheVariants.{Both, Newer, Older}
 
 -- `changed_numbers`
-module _ {a : Told} {r : ChangedNumbers} where
-  pub older-numbers : {n p : ℕ} → a ≡ OlderRefused n p → r ≡ record { refusal = n; side = 1; place = p; rows = 0 } → r ≡ changed_numbers (told_of a)
-  older-numbers e f = rw e f
+with-side : (w : Whose) (n p : ℕ) → record { refusal = n; side = side_of w; place = p; rows = 0 } ≡ changed_numbers (refused_of w n p)
+with-side Both n p = refl
+with-side Older n p = refl
+with-side Newer n p = refl
 
-  pub newer-numbers : {n p : ℕ} → a ≡ NewerRefused n p → r ≡ record { refusal = n; side = 2; place = p; rows = 0 } → r ≡ changed_numbers (told_of a)
-  newer-numbers e f = rw e f
+module _ {a : Told} where
+  pub refused-numbers : {w : Whose} {n p : ℕ} → a ≡ Err (record { whose = w; number = n; place = p }) → {k : ℕ} → k ≡ side_of w → record { refusal = n; side = k; place = p; rows = 0 } ≡ changed_numbers (told_of a)
+  refused-numbers {w} {n} {p} e f = rw (e, f) (with-side w n p)
 
-  pub both-numbers : {n p : ℕ} → a ≡ Refused n p → r ≡ record { refusal = n; side = 0; place = p; rows = 0 } → r ≡ changed_numbers (told_of a)
-  both-numbers e f = rw e f
+  pub rows-numbers : {k : ℕ} → a ≡ Ok k → record { refusal = 0; side = 0; place = 0; rows = k } ≡ changed_numbers (told_of a)
+  rows-numbers e = rw e refl
 
-  pub rows-numbers : {k : ℕ} → a ≡ Rows k → r ≡ record { refusal = 0; side = 0; place = 0; rows = k } → r ≡ changed_numbers (told_of a)
-  rows-numbers e f = rw e f
-
-pub ruleset numbers = (rules, older-numbers, newer-numbers, both-numbers, rows-numbers)
+pub ruleset numbers = (rules, refused-numbers, rows-numbers)
 
 -- `has_room`
 pub room-is : (n k : ℕ) → leb k (n / 8) ≡ leb (change_columns * k) n

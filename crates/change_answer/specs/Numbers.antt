@@ -1,6 +1,5 @@
 -- The answer to a comparison as numbers.
 -- Assumes nothing.
-use Rattle.std.specs.Prelude.{ℕ}
 use Rattle.difference.specs.Changes.{newer, older}
 use Rattle.difference.specs.Told.{Told, refusal, refused_in, told}
 use Rattle.change_answer.specs.declared.ChangedNumbers.{ChangedNumbers}

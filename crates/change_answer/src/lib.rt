@@ -1,19 +1,29 @@
-// What a comparison of two texts answers, and the same as numbers: an enum cannot cross over to C.
+// What a comparison of two texts answers, and the same as numbers: a Result cannot cross over to C.
 #![tactic(auto)]
 
 ghost use Rattle.std.specs.Prelude.{◌≡◌, ◌*◌, leb};
 ghost use Rattle.difference.specs.Rows.{change_columns};
-ghost use Rattle.change_answer.specs.Answer.{told_of};
+ghost use Rattle.change_answer.specs.Answer.{side_of, told_of};
 ghost use Rattle.change_answer.specs.Numbers.{changed_numbers};
 
-// A refusal of the older text, of the newer, or of both; or how many rows there are.
-#[derive(Clone, Copy)]
-pub enum Told {
-    OlderRefused { number: u32, place: usize },
-    NewerRefused { number: u32, place: usize },
-    Refused { number: u32, place: usize },
-    Rows { rows: usize },
+// Whose refusal it is: of both texts, of the older, or of the newer.
+#[derive(Clone, Copy, PartialEq, Eq)]
+pub enum Whose {
+    Both,
+    Older,
+    Newer,
 }
+
+// A refusal: whose it is, its number, and the place that it speaks of.
+#[derive(Clone, Copy)]
+pub struct Refused {
+    pub whose: Whose,
+    pub number: u32,
+    pub place: usize,
+}
+
+// What a comparison answers: how many rows there are, or a refusal.
+pub type Told = Result<usize, Refused>;
 
 // The answer: a refusal's number, 1 if it is the older text's, 2 if it is the newer's, else 0, and its place; or 0 and how
 // many rows there are.
@@ -33,15 +43,14 @@ pub fn has_room(numbers: usize, rows: usize) -> bool
     rows <= numbers / 8
 }
 
-// The numbers of a refusal.
-fn refused(number: u32, side: u32, place: usize) -> ChangedNumbers
-    ensures { result ≡ record { refusal = number; side = side; place = place; rows = 0 } }
+// The number of a side: 1 for the older, 2 for the newer, 0 for both.
+fn side(whose: Whose) -> u32
+    ensures { result ≡ side_of whose }
 {
-    ChangedNumbers {
-        refusal: number,
-        side: side,
-        place: place,
-        rows: 0,
+    match whose {
+        Whose::Both => 0,
+        Whose::Older => 1,
+        Whose::Newer => 2,
     }
 }
 
@@ -50,14 +59,17 @@ pub fn changed_numbers(told: Told) -> ChangedNumbers
     ensures { result ≡ changed_numbers (told_of told) }
 {
     match told {
-        Told::OlderRefused { number, place } => refused(number, 1, place),
-        Told::NewerRefused { number, place } => refused(number, 2, place),
-        Told::Refused { number, place } => refused(number, 0, place),
-        Told::Rows { rows } => ChangedNumbers {
+        Ok(rows) => ChangedNumbers {
             refusal: 0,
             side: 0,
             place: 0,
-            rows: rows,
+            rows,
+        },
+        Err(refused) => ChangedNumbers {
+            refusal: refused.number,
+            side: side(refused.whose),
+            place: refused.place,
+            rows: 0,
         },
     }
 }

@@ -4,9 +4,8 @@
 mod line;
 mod row;
 
-use change_rows::VALUE_DIFFERS;
+use change_rows::{Row, VALUE_DIFFERS};
 use rooms::{FIXUP_ROOM, SYMBOL_ROOM};
-use row::Row;
 use sink::{Buffer, Sink};
 
 // The line of a row.
@@ -41,10 +40,8 @@ pub fn lines<'a>(
     ys: &[u32; FIXUP_ROOM],
 ) -> Sink {
     let mut now = s;
-    let mut i = 0;
-    while i < n {
+    for i in 0..n {
         now = row_line(now, out, row::row_at(list, i), older, f, xs, newer, g, ys);
-        i += 1;
     }
     now
 }

@@ -1,9 +1,8 @@
 // The line of a row.
-use crate::row::Row;
 use cells::wide;
 use change_rows::{
     AREA_ONLY_NEW, AREA_ONLY_OLD, FIXUP_ONLY_NEW, FIXUP_ONLY_OLD, POSITION_ONLY_NEW,
-    POSITION_ONLY_OLD, SYMBOL_ONLY_NEW, SYMBOL_ONLY_OLD,
+    POSITION_ONLY_OLD, Row, SYMBOL_ONLY_NEW, SYMBOL_ONLY_OLD,
 };
 use fixup_rows::{fixup_at, fixup_name};
 use sink::{Buffer, Sink};

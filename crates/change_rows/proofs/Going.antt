@@ -1,6 +1,6 @@
 -- Rows one behind the other: what was added, and what is still to come.
 -- Assumes nothing.
-use Prim.Native.Nat.{ℕ, zero, suc, ◌+◌, ◌*◌, ◌<◌, ◌≤◌}
+use Prim.Native.Nat.{ℕ, suc, ◌+◌, ◌*◌, ◌<◌, ◌≤◌}
 use native.Mathlib.Nat.{add-zero, add-suc, suc-add}
 use mathlib.Core.Path.{◌≡◌, refl, ap, sym, ◌∙◌}
 use mathlib.Core.Bool.{Bool, true, false}
@@ -13,7 +13,7 @@ use lib.Dec.{ltb}
 use borrow.Author.Rules.{rules}
 use borrow.Author.Tests.{lt-ltb, le-ltb}
 use Rattle.format.specs.Lists.{flat, pick}
-use Rattle.difference.specs.Changes.{Change, Side, area, fixup, newer, older, position, symbol, value}
+use Rattle.difference.specs.Changes.{Change, area, fixup, newer, older, position, symbol, value}
 use Rattle.difference.specs.Rows.{change_columns, change_numbers}
 use Rattle.change_rows.specs.Walk.{Added, Put, Walked, laid, stored}
 

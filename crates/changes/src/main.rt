@@ -3,7 +3,7 @@
 
 mod told;
 
-use console::{Input, Request, Room};
+use console::{Request, Room};
 use host::Host;
 use rooms::INPUT_ROOM;
 
@@ -21,8 +21,8 @@ fn compare<'a>(older: &'a Room, n: usize, newer: &'a Room, m: usize) {
 fn compare_with(rt: &impl Host, older: &Room, n: usize, i: usize) {
     let mut newer = [0u8; INPUT_ROOM];
     match argument_text::fetch(rt, i, &mut newer) {
-        Input::Failed(_) => {}
-        Input::Text(m) => compare(older, n, &newer, m),
+        Err(_) => {}
+        Ok(m) => compare(older, n, &newer, m),
     }
 }
 
@@ -30,8 +30,8 @@ fn compare_with(rt: &impl Host, older: &Room, n: usize, i: usize) {
 fn compare_both(rt: &impl Host, i: usize, j: usize) {
     let mut older = [0u8; INPUT_ROOM];
     match argument_text::fetch(rt, i, &mut older) {
-        Input::Failed(_) => {}
-        Input::Text(n) => compare_with(rt, &older, n, j),
+        Err(_) => {}
+        Ok(n) => compare_with(rt, &older, n, j),
     }
 }
 

@@ -16,12 +16,13 @@ use Rattle.format.specs.Records as recs
 use Rattle.format.specs.Reading as paper
 use Rattle.format.specs.Held.{Held, Meets, lengths}
 use Rattle.steps.proofs.Stored as stored
-use Rattle.answer.specs.Answer.{held, told, told_counts, told_verdict}
+use Rattle.std.specs.Prelude.{Ok, Err}
+use Rattle.answer.specs.declared.Accepted.{Accepted}
+use Rattle.answer.specs.declared.Refusal.{Refusal}
+use Rattle.answer.specs.Answer.{Answer, held, told, told_counts, told_verdict}
 use Rattle.answer.specs.declared.Counts.{Counts}
 use Rattle.answer.specs.declared.Verdict.{Verdict}
 use Rattle.answer.specs.declared.Verdict.TheVariants.{Finished, Stopped}
-use Rattle.answer.specs.declared.Answer.{Answer}
-use Rattle.answer.specs.declared.Answer.TheVariants.{Accepted, Refusal}
 use Rattle.difference.specs.Module.{Module}
 use Rattle.difference.specs.Changes.{Change, changes}
 use Rattle.difference.specs.Rows.{change_columns, change_numbers}
@@ -41,9 +42,9 @@ use Rattle.changes_of.proofs.Whole.{walk_is}
 use Rattle.change_rows.specs.Walk.{Walked, WalkedIf, laid}
 use Rattle.change_rows.specs.Walk as walk
 use Rattle.changes_of.specs.Answer.{Changed, Compares, FitIf, IfBoth, IfFit, NewerRead, both_of, bounds, finished_of}
-use Rattle.change_answer.specs.Answer.{Lists}
-use Rattle.change_answer.specs.declared.Told.{Told}
-use Rattle.change_answer.specs.declared.Told.TheVariants.{NewerRefused, OlderRefused, Refused, Rows}
+use Rattle.std.specs.Prelude.{Ok, Err}
+use Rattle.change_answer.specs.Answer.{Lists, Told}
+use Rattle.change_answer.specs.declared.Whose.TheVariants.{Both, Newer, Older}
 use Rattle.change_rows.proofs.Going.{columns}
 
 -- the list, by what was counted and what was written
@@ -63,11 +64,11 @@ module _ {list : List ℕ} {cs : List Change} {k r : ℕ} {one : List ℕ} (a : 
   room_for : {x : Bool} → x ≡ leb (change_columns * r) (length one) → {y : Bool} → x ≡ y → leb (change_columns * length cs) (length list) ≡ y
   room_for h e = ap (λ (k : ℕ). leb (change_columns * k) (length list)) (sym rows_are) ∙ (ap (λ (l : List ℕ). leb (change_columns * r) (length l)) (sym (counted_same a)) ∙ (sym h ∙ e))
 
-  counted-short : leb (change_columns * length cs) (length list) ≡ false → Lists (listed list cs) (Refused 16 0) one
+  counted-short : leb (change_columns * length cs) (length list) ≡ false → Lists (listed list cs) (Err (record { whose = Both; number = 16; place = 0 })) one
   unfolding listed
   counted-short e = record { answer = rw e; list = rw e (counted_same a) }
 
-  counted-fits : leb (change_columns * length cs) (length list) ≡ true → {l u : ℕ} {after : List ℕ} → Walked true one 0 cs l u after → Lists (listed list cs) (Rows u) after
+  counted-fits : leb (change_columns * length cs) (length list) ≡ true → {l u : ℕ} {after : List ℕ} → Walked true one 0 cs l u after → Lists (listed list cs) (Ok u) after
   unfolding listed
   counted-fits e {l} {u} {after} b =
       let same : one ≡ list = counted_same a in
@@ -77,11 +78,11 @@ module _ {list : List ℕ} {cs : List Change} {k r : ℕ} {one : List ℕ} (a : 
 
 -- `fill`
 module _ {c : paper.Counts} {h : Held} {d : paper.Counts} {k : Held} {list : List ℕ} {cs : List Change} {m r : ℕ} {one : List ℕ} (a : IfFit c h d k (Walked false list 0 cs m r one)) where
-  pub list-short : {z : Bool} → z ≡ leb (change_columns * r) (length one) → z ≡ false → IfFit c h d k (Lists (listed list cs) (Refused 16 0) one)
+  pub list-short : {z : Bool} → z ≡ leb (change_columns * r) (length one) → z ≡ false → IfFit c h d k (Lists (listed list cs) (Err (record { whose = Both; number = 16; place = 0 })) one)
   list-short l e = record { holds = λ x y. counted-short (a.holds x y) (room_for (a.holds x y) l e) }
 
   pub list-fits : {z : Bool} → z ≡ leb (change_columns * r) (length one) → z ≡ true → {n u : ℕ} {after : List ℕ} → IfFit c h d k (Walked true one 0 cs n u after)
-      → IfFit c h d k (Lists (listed list cs) (Rows u) after)
+      → IfFit c h d k (Lists (listed list cs) (Ok u) after)
   list-fits l e b = record { holds = λ x y. counted-fits (a.holds x y) (room_for (a.holds x y) l e) (b.holds x y) }
 
 -- `rows`: the stretch that is the module's image
@@ -132,12 +133,12 @@ pub ruleset walking = (rules, walk-held)
 -- `finished`
 module _ (s : List ℕ) (one : Counts) (h : Held) (t : List ℕ) (two : Counts) (k : Held) (list : List ℕ) where
   pub finish-older : {v : Verdict} (o : Verdict) {n : ℕ} → v ≡ Stopped n
-      → IfFit (told_counts one) h (told_counts two) k (Lists (finished_of s (told_counts one) (told_verdict v) h t (told_counts two) (told_verdict o) k list) (Refused 19 0) list)
+      → IfFit (told_counts one) h (told_counts two) k (Lists (finished_of s (told_counts one) (told_verdict v) h t (told_counts two) (told_verdict o) k list) (Err (record { whose = Both; number = 19; place = 0 })) list)
   unfolding finished_of
   finish-older {v} o e = record { holds = λ x y. record { answer = rw e; list = rw e } }
 
   pub finish-newer : {v o : Verdict} {n : ℕ} → v ≡ Finished → o ≡ Stopped n
-      → IfFit (told_counts one) h (told_counts two) k (Lists (finished_of s (told_counts one) (told_verdict v) h t (told_counts two) (told_verdict o) k list) (Refused 19 0) list)
+      → IfFit (told_counts one) h (told_counts two) k (Lists (finished_of s (told_counts one) (told_verdict v) h t (told_counts two) (told_verdict o) k list) (Err (record { whose = Both; number = 19; place = 0 })) list)
   unfolding finished_of
   finish-newer e f = record { holds = λ x y. record { answer = rw (e, f); list = rw (e, f) } }
 
@@ -150,20 +151,20 @@ module _ (s : List ℕ) (one : Counts) (h : Held) (t : List ℕ) (two : Counts) 
 pub ruleset finishes = (rules, finish-older, finish-newer, finish-both)
 
 -- `both`
-fit-if : {a : Answer} (h : Held) {c : Counts} {v : Verdict} → a ≡ Accepted c v → FitIf (told a) h → Fit (told_counts c) h
+fit-if : {a : Answer} (h : Held) {x : Accepted} → a ≡ Ok x → FitIf (told a) h → Fit (told_counts x.counts) h
 unfolding FitIf
 fit-if h e f = rw e at f
 
 module _ (s : List ℕ) (h : Held) (t : List ℕ) (k : Held) (list : List ℕ) where
-  pub both-older : {a : Answer} (b : Answer) {n p : ℕ} → a ≡ Refusal n p → IfBoth (told a) h (told b) k (Lists (both_of s (told a) h t (told b) k list) (OlderRefused n p) list)
+  pub both-older : {a : Answer} (b : Answer) {z : Refusal} → a ≡ Err z → IfBoth (told a) h (told b) k (Lists (both_of s (told a) h t (told b) k list) (Err (record { whose = Older; number = z.number; place = z.place })) list)
   both-older b e = record { holds = λ x y. record { answer = rw e; list = rw e } }
 
-  module _ {a : Answer} {c : Counts} {v : Verdict} (e : a ≡ Accepted c v) {b : Answer} where
-    pub both-newer : {n p : ℕ} → b ≡ Refusal n p → IfBoth (told a) h (told b) k (Lists (both_of s (told a) h t (told b) k list) (NewerRefused n p) list)
+  module _ {a : Answer} {m : Accepted} (e : a ≡ Ok m) {b : Answer} where
+    pub both-newer : {z : Refusal} → b ≡ Err z → IfBoth (told a) h (told b) k (Lists (both_of s (told a) h t (told b) k list) (Err (record { whose = Newer; number = z.number; place = z.place })) list)
     both-newer f = record { holds = λ x y. record { answer = rw (e, f); list = rw (e, f) } }
 
-    pub both_read : {d : Counts} {o : Verdict} → b ≡ Accepted d o → {r : Told} {after : List ℕ}
-        → IfFit (told_counts c) h (told_counts d) k (Lists (finished_of s (told_counts c) (told_verdict v) h t (told_counts d) (told_verdict o) k list) r after)
+    pub both_read : {n : Accepted} → b ≡ Ok n → {r : Told} {after : List ℕ}
+        → IfFit (told_counts m.counts) h (told_counts n.counts) k (Lists (finished_of s (told_counts m.counts) (told_verdict m.verdict) h t (told_counts n.counts) (told_verdict n.verdict) k list) r after)
         → IfBoth (told a) h (told b) k (Lists (both_of s (told a) h t (told b) k list) r after)
     both_read f g = record { holds = λ x y. rw (e, f) (g.holds (fit-if h e x) (fit-if k f y)) }
 

@@ -1,6 +1,6 @@
 -- The walks together give what changed.
 -- Assumes nothing.
-use Prim.Native.Nat.{ℕ, zero, suc, ◌+◌, ◌-◌, ◌<◌, ◌≤◌}
+use Prim.Native.Nat.{ℕ, zero, suc, ◌+◌, ◌<◌, ◌≤◌}
 use native.Mathlib.Nat.{add-suc, suc-add}
 use mathlib.Core.Path.{◌≡◌, refl, ap, subst, sym, ◌∙◌}
 use mathlib.Core.Bool.{Bool, true, false, not}
@@ -8,16 +8,15 @@ use mathlib.Core.List.{List, [], ◌∷◌, ◌++◌}
 use mathlib.Core.Option.{Option, none, some}
 use native.Mathlib.Omega.{arith}
 use lib.Dec.{eqb, ltb}
-use borrow.Author.Tests.{eq-eqb, ne_eqb, lt-ltb, le-ltb, eqb-true, eqb-false, ltb-true, ltb-false}
+use borrow.Author.Tests.{eq-eqb, ne_eqb, lt-ltb, le-ltb, ltb-false}
 use Rattle.format.specs.Lists.{pick}
-use Rattle.format.specs.Fixups.{Fixup}
 use Rattle.laws.specs.Rows.{areas_in, fixups_in, from, symbol_at, symbols_in}
 use Rattle.row_parts.specs.Ranges as rows
 use Rattle.alike.specs.Looked.{first_of}
 use Rattle.name_index.specs.Index.{name_at, named_at}
 use Rattle.difference.specs.Module as the
 use Rattle.difference.specs.Module.{At, Cell, Module, Named, cells, first, firsts, images, named, numbered, passing, same_numbers, sizes, split, symbols_of}
-use Rattle.difference.specs.Changes.{Change, area_change, changes, each, lacking, newer, older, only_new, paired, symbol_changes, value_change}
+use Rattle.difference.specs.Changes.{Change, area_change, changes, each, lacking, only_new, paired, symbol_changes, value_change}
 use Rattle.difference.proofs.Lists.{same_refl}
 use Rattle.change_rows.specs.Walk.{Walked}
 use Rattle.area_changes.specs.Here.{area_here}

@@ -10,8 +10,7 @@ use Rattle.difference.specs.Changes.{changes, newer, older}
 use Rattle.difference.specs.Told as the
 use Rattle.difference.specs.Told.{Listed, compare, is_finished, listed}
 use Rattle.read_rows.specs.Rows.{Fit, module_held}
-use Rattle.change_answer.specs.declared.Told.{Told}
-use Rattle.change_answer.specs.Answer.{Lists}
+use Rattle.change_answer.specs.Answer.{Lists, Told}
 
 -- counts that fit their buffers, if there are any
 unfoldable pub FitIf : Answer → Held → Type 0

@@ -10,7 +10,8 @@ ghost use Rattle.changes_of.specs.Answer.{IfFit};
 
 use answer::Counts;
 use area_changes::areas;
-use change_answer::{Told, has_room};
+use change_answer::{Refused, Told, Whose, has_room};
+use change_rows::Side;
 use next_areas::stretch;
 use symbol_changes::symbols;
 
@@ -35,18 +36,30 @@ fn walk(
 ) -> usize
     ensures { IfFit (told_counts one) (held p.now f.now v.now k.now xs.now) (told_counts two) (held q.now g.now w.now l.now ys.now) (Walked writing list.old 0 (changes (module_held s.now (told_counts one) (held p.now f.now v.now k.now xs.now)) (module_held t.now (told_counts two) (held q.now g.now w.now l.now ys.now))) 8652800 result list.new) }
 {
-    let va = stretch(v, 0, one.positions);
-    let ka = stretch(k, 0, one.positions);
-    let wa = stretch(w, 0, two.positions);
-    let la = stretch(l, 0, two.positions);
-    let a = one.areas;
-    let m = one.fixups;
-    let b = two.areas;
-    let n = two.fixups;
-    let count = areas(
-        s, p, a, va, ka, xs, m, t, q, b, wa, la, ys, n, list, writing,
-    );
-    symbols(s, f, one.symbols, t, g, two.symbols, list, count, writing)
+    let older = Side {
+        text: s,
+        areas: p,
+        area_count: one.areas,
+        symbols: f,
+        symbol_count: one.symbols,
+        values: stretch(v, 0, one.positions),
+        masks: stretch(k, 0, one.positions),
+        fixups: xs,
+        fixup_count: one.fixups,
+    };
+    let newer = Side {
+        text: t,
+        areas: q,
+        area_count: two.areas,
+        symbols: g,
+        symbol_count: two.symbols,
+        values: stretch(w, 0, two.positions),
+        masks: stretch(l, 0, two.positions),
+        fixups: ys,
+        fixup_count: two.fixups,
+    };
+    let count = areas(&older, &newer, list, writing);
+    symbols(&older, &newer, list, count, writing)
 }
 
 // Counts, and then writes if the list has room: 16 if it has not.
@@ -72,10 +85,11 @@ pub(crate) fn fill(
     let total = walk(s, p, f, v, k, xs, one, t, q, g, w, l, ys, two, list, false);
     if has_room(list.len(), total) {
         let count = walk(s, p, f, v, k, xs, one, t, q, g, w, l, ys, two, list, true);
-        return Told::Rows { rows: count };
+        return Ok(count);
     }
-    Told::Refused {
+    Err(Refused {
+        whose: Whose::Both,
         number: 16,
         place: 0,
-    }
+    })
 }

@@ -5,7 +5,14 @@ ghost use Rattle.changes_of.specs.Answer.{IfBoth, IfFit, both_of, finished_of};
 
 use crate::listed::fill;
 use answer::{Answer, Counts, Verdict};
-use change_answer::Told;
+use change_answer::{Refused, Told, Whose};
+
+// The refusal of two texts of which one is not finished.
+const UNFINISHED: Refused = Refused {
+    whose: Whose::Both,
+    number: 19,
+    place: 0,
+};
 
 // Two texts that are read: 19 if either is not finished.
 fn finished(
@@ -30,15 +37,9 @@ fn finished(
     ensures { IfFit (told_counts one) (held p.now f.now v.now k.now xs.now) (told_counts two) (held q.now g.now w.now l.now ys.now) (Lists (finished_of s.now (told_counts one) (told_verdict verdict) (held p.now f.now v.now k.now xs.now) t.now (told_counts two) (told_verdict other) (held q.now g.now w.now l.now ys.now) list.old) result list.new) }
 {
     match verdict {
-        Verdict::Stopped { place: _ } => Told::Refused {
-            number: 19,
-            place: 0,
-        },
+        Verdict::Stopped { place: _ } => Err(UNFINISHED),
         Verdict::Finished => match other {
-            Verdict::Stopped { place: _ } => Told::Refused {
-                number: 19,
-                place: 0,
-            },
+            Verdict::Stopped { place: _ } => Err(UNFINISHED),
             Verdict::Finished => fill(s, p, f, v, k, xs, one, t, q, g, w, l, ys, two, list),
         },
     }
@@ -65,23 +66,35 @@ pub(crate) fn answered(
     ensures { IfBoth (told first) (held p.now f.now v.now k.now xs.now) (told second) (held q.now g.now w.now l.now ys.now) (Lists (both_of s.now (told first) (held p.now f.now v.now k.now xs.now) t.now (told second) (held q.now g.now w.now l.now ys.now) list.old) result list.new) }
 {
     match first {
-        Answer::Refusal { number, place } => Told::OlderRefused {
-            number: number,
-            place: place,
-        },
-        Answer::Accepted {
-            counts: one,
-            verdict,
-        } => match second {
-            Answer::Refusal { number, place } => Told::NewerRefused {
-                number: number,
-                place: place,
-            },
-            Answer::Accepted {
-                counts: two,
-                verdict: other,
-            } => finished(
-                s, p, f, v, k, xs, one, verdict, t, q, g, w, l, ys, two, other, list,
+        Err(refusal) => Err(Refused {
+            whose: Whose::Older,
+            number: refusal.number,
+            place: refusal.place,
+        }),
+        Ok(one) => match second {
+            Err(refusal) => Err(Refused {
+                whose: Whose::Newer,
+                number: refusal.number,
+                place: refusal.place,
+            }),
+            Ok(two) => finished(
+                s,
+                p,
+                f,
+                v,
+                k,
+                xs,
+                one.counts,
+                one.verdict,
+                t,
+                q,
+                g,
+                w,
+                l,
+                ys,
+                two.counts,
+                two.verdict,
+                list,
             ),
         },
     }

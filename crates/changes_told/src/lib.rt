@@ -3,17 +3,27 @@
 
 mod rows;
 
-use change_answer::Told;
+use change_answer::{Refused, Told, Whose};
 use rows::List;
 use sink::{Buffer, Sink};
 
 // A refusal, which is told on standard error as well: of a side, or of both under the program's name.
-fn refused(s: Sink, out: &mut Buffer, word: &[u8], name: &[u8], number: u32, place: usize) -> Sink {
+fn refused(s: Sink, out: &mut Buffer, word: &[u8], name: &[u8], r: Refused) -> Sink {
+    let number = cells::wide(r.number);
     let s1 = sink::put(s, out, word);
-    let s2 = texts::decimal(s1, out, b"refused ", cells::wide(number));
-    let s3 = texts::decimal(s2, out, b" at ", place);
+    let s2 = texts::decimal(s1, out, b"refused ", number);
+    let s3 = texts::decimal(s2, out, b" at ", r.place);
     let s4 = sink::put(s3, out, b"\n");
-    console::tell_refused(s4, out, name, cells::wide(number), place)
+    console::tell_refused(s4, out, name, number, r.place)
+}
+
+// A refusal, told of the side whose it is.
+fn side_refused(s: Sink, out: &mut Buffer, r: Refused) -> Sink {
+    match r.whose {
+        Whose::Older => refused(s, out, b"older: ", b"older", r),
+        Whose::Newer => refused(s, out, b"newer: ", b"newer", r),
+        Whose::Both => refused(s, out, b"", b"changes", r),
+    }
 }
 
 // What the comparison of two texts told.
@@ -26,19 +36,9 @@ fn told<'a>(
     newer: &'a [u8],
 ) -> Sink {
     match t {
-        Told::OlderRefused { number, place } => {
-            refused(s, out, b"older: ", b"older", number, place)
-        }
-        Told::NewerRefused { number, place } => {
-            refused(s, out, b"newer: ", b"newer", number, place)
-        }
-        Told::Refused { number, place } => refused(s, out, b"", b"changes", number, place),
-        Told::Rows { rows } => {
-            if rows == 0 {
-                return sink::put(s, out, b"no change\n");
-            }
-            rows::tell_rows(s, out, list, rows, older, newer)
-        }
+        Err(r) => side_refused(s, out, r),
+        Ok(0) => sink::put(s, out, b"no change\n"),
+        Ok(rows) => rows::tell_rows(s, out, list, rows, older, newer),
     }
 }
 

@@ -5,12 +5,12 @@ use sink::{Buffer, Sink};
 // Room for a list that no two modules fill: positions, fixups and symbols of both sides, and areas.
 pub(crate) type List = [u32; 1081856];
 
-// The symbols and fixups of a text.
+// The symbols and fixups of a text. What the reading answers of it was told before, by the comparison.
 fn read(text: &[u8], symbols: &mut [u32; SYMBOL_ROOM], fixups: &mut [u32; FIXUP_ROOM]) {
     let mut areas = [0u32; AREA_ROOM];
     let mut values = [0u8; IMAGE_ROOM];
     let mut masks = [0u8; IMAGE_ROOM];
-    reading::read_ended(text, &mut areas, symbols, &mut values, &mut masks, fixups);
+    let _ = reading::read_ended(text, &mut areas, symbols, &mut values, &mut masks, fixups);
 }
 
 // The lines of n rows.

@@ -2,7 +2,7 @@
 -- Assumes nothing.
 use Prim.Native.Nat.{ℕ, zero, suc, ◌+◌, ◌-◌, ◌≤◌, ◌<◌}
 use mathlib.Core.Path.{◌≡◌, refl, sym, ap, ◌∙◌}
-use mathlib.Core.Bool.{Bool, true, false}
+use mathlib.Core.Bool.{Bool}
 use mathlib.Core.List.{List}
 use native.Mathlib.Numerals.{add-one}
 use native.Mathlib.Omega.{arith}
@@ -12,6 +12,7 @@ use lib.Dec.{eqb}
 use lib.ListN.{get_or}
 use borrow.Author.Rules.{rules}
 use borrow.Author.Tests.{lt-ltb, le-ltb}
+use Rattle.std.specs.Prelude.{Result, Ok, Err}
 use Rattle.format.specs.Lists.{pick}
 use Rattle.format.specs.Pairs.{Fragment}
 use Rattle.format.specs.Outcome.{fine, and_then}
@@ -19,15 +20,13 @@ use Rattle.format.specs.Tables.{Tables}
 use Rattle.laws.specs.Rows.{from}
 use Rattle.laws.proofs.Areas.{one_at_most}
 use Rattle.sites.specs.declared.Site.{Site}
-use Rattle.row_count.specs.declared.RowCount.{RowCount}
-use Rattle.row_count.specs.declared.RowCount.TheVariants.{Refused, Rows}
 use Rattle.row_count.specs.Count.{count_for, told_count, CountedFor}
 use Rattle.references.specs.declared.Refers.{Refers}
 use Rattle.references.specs.References as ref
 use Rattle.references.specs.References.{refers_in}
 use Rattle.sites.specs.Columns.{fragment_at, fragments_in}
 use Rattle.checks.specs.Check.{counts_at, count_walk, count_entry, count_line, Tallied}
-use Rattle.sites.specs.Site.{Ready, is_ready, few, tables_for}
+use Rattle.sites.specs.Site.{Ready, tables_for}
 
 -- ------------------------------------------------------------------ the fragments of an entry
 
@@ -48,7 +47,7 @@ counting-start ms es xs areas symbols s entry k h = record {
 }
 
 module _ {ms es xs areas symbols : List ℕ} {s : Site} {entry k j i : ℕ} (w : Counting ms es xs areas symbols s entry k j i) where
-  pub counting-end : s.line.fragments ≤ i → Tallied (count_entry ms es xs areas symbols s entry k) k (Rows j)
+  pub counting-end : s.line.fragments ≤ i → Tallied (count_entry ms es xs areas symbols s entry k) k (Ok j)
   unfolding counts_at from
   counting-end h = record { says = λ place. let z : s.line.fragments - i ≡ 0 = omega arith in sym (w.rest place ∙ rw z); room = w.room; grew = w.grew }
 
@@ -56,7 +55,7 @@ module _ {ms es xs areas symbols : List ℕ} {s : Site} {entry k j i : ℕ} (w :
   counting-room = w.room
 
   module _ (h : i < s.line.fragments) (to : Refers) (a : (place : ℕ) → ref.told place to ≡ refers_in areas symbols s.filled (fragment_at ms es xs i) entry place)
-      {r : RowCount} (b : CountedFor to i s.made j r) where
+      {r : Result ℕ ℕ} (b : CountedFor to i s.made j r) where
     next : (place : ℕ) → count_entry ms es xs areas symbols s entry k place
         ≡ and_then (told_count place r) (λ x. counts_at (tables_for areas symbols s.filled) s.made entry (suc i) (from (fragment_at ms es xs) (suc i) (s.line.fragments - suc i)) x place)
     unfolding counts_at from count_for refers_in
@@ -64,10 +63,10 @@ module _ {ms es xs areas symbols : List ℕ} {s : Site} {entry k j i : ℕ} (w :
         let z : s.line.fragments - i ≡ suc (s.line.fragments - suc i) = omega arith in
         w.rest place ∙ (ap (λ (n : ℕ). counts_at (tables_for areas symbols s.filled) s.made entry i (from (fragment_at ms es xs) i n) j place) z ∙ rw (← a place, ← b.says place))
 
-    pub counting-stop : {x : ℕ} → r ≡ Refused x → Tallied (count_entry ms es xs areas symbols s entry k) k r
-    counting-stop g = record { says = λ place. rw g (sym (rw g at (next place))); room = b.room w.room; grew = omega (arith, w.grew, b.grew w.room) }
+    pub counting-stop : {x : ℕ} → r ≡ Err x → Tallied (count_entry ms es xs areas symbols s entry k) k (Err x)
+    counting-stop g = record { says = λ place. sym (rw g at (next place)); room = omega arith; grew = omega (arith, w.grew, w.room) }
 
-    pub counting_more : {x : ℕ} → r ≡ Rows x → Counting ms es xs areas symbols s entry k x (i + 1)
+    pub counting_more : {x : ℕ} → r ≡ Ok x → Counting ms es xs areas symbols s entry k x (i + 1)
     counting_more {x} g = record {
       within = omega arith;
       rest = λ place. rw add-one (rw g at (next place));
@@ -113,7 +112,7 @@ pub line-narrow : (s : Site) → Ready s → Fits w32 (s.line.width + s.line.byt
 line-narrow s r = record { fits = omega (arith, r.line.address, r.line.content) }
 
 module _ {ms es xs areas symbols : List ℕ} {s : Site} {keeps : List ℕ} {n k e p : ℕ} (w : Checking ms es xs areas symbols s keeps n k e p) where
-  pub checking-end : n ≤ e → Tallied (count_line ms es xs areas symbols s keeps) s.filled.fixups (Rows k)
+  pub checking-end : n ≤ e → Tallied (count_line ms es xs areas symbols s keeps) s.filled.fixups (Ok k)
   unfolding count_walk
   checking-end h = record { says = λ place. let z : n - e ≡ 0 = omega arith in sym (w.rest place ∙ rw z); room = w.room; grew = w.grew }
 
@@ -129,14 +128,14 @@ module _ {ms es xs areas symbols : List ℕ} {s : Site} {keeps : List ℕ} {n k 
   pub grow-fits : p < s.size → (b : Bool) {y : ℕ} → y ≡ pick b 1 0 → Fits w32 (p + y)
   grow-fits h b ey = record { fits = omega (arith, w.ready.inside, one_at_most b) }
 
-  pub checking-out : s.size ≤ p → Tallied (count_line ms es xs areas symbols s keeps) s.filled.fixups (Rows k)
+  pub checking-out : s.size ≤ p → Tallied (count_line ms es xs areas symbols s keeps) s.filled.fixups (Ok k)
   checking-out l = record {
     says = λ place. sym (w.rest place ∙ out_of (tables_for areas symbols s.filled) s.made s.size (fragments_in ms es xs s.line.fragments) keeps (n - e) e p k place l);
     room = w.room;
     grew = w.grew;
   }
 
-  module _ (h : e < n) (l : p < s.size) {r : RowCount} (a : Tallied (count_entry ms es xs areas symbols s e k) k r) where
+  module _ (h : e < n) (l : p < s.size) {r : Result ℕ ℕ} (a : Tallied (count_entry ms es xs areas symbols s e k) k r) where
     onward : (place : ℕ) → count_line ms es xs areas symbols s keeps place
         ≡ and_then (told_count place r) (λ j. count_walk (tables_for areas symbols s.filled) s.made s.size (fragments_in ms es xs s.line.fragments) keeps (n - suc e) (suc e) (p + pick (eqb (get_or keeps e 0) 1) 1 0) j place)
     unfolding count_walk count_entry
@@ -145,10 +144,10 @@ module _ {ms es xs areas symbols : List ℕ} {s : Site} {keeps : List ℕ} {n k 
         w.rest place ∙ (ap (λ (y : ℕ). count_walk (tables_for areas symbols s.filled) s.made s.size (fragments_in ms es xs s.line.fragments) keeps y e p k place) z
         ∙ rw (lt-ltb p s.size l, ← a.says place))
 
-    pub checking-stop : {x : ℕ} → r ≡ Refused x → Tallied (count_line ms es xs areas symbols s keeps) s.filled.fixups r
-    checking-stop g = record { says = λ place. rw g (sym (rw g at (onward place))); room = a.room; grew = omega (arith, w.grew, a.grew) }
+    pub checking-stop : {x : ℕ} → r ≡ Err x → Tallied (count_line ms es xs areas symbols s keeps) s.filled.fixups (Err x)
+    checking-stop g = record { says = λ place. sym (rw g at (onward place)); room = omega arith; grew = omega (arith, w.grew, w.room) }
 
-    pub checking-more : {x : ℕ} → r ≡ Rows x → {y : ℕ} → y ≡ pick (eqb (get_or keeps e 0) 1) 1 0 → Checking ms es xs areas symbols s keeps n x (e + 1) (p + y)
+    pub checking-more : {x : ℕ} → r ≡ Ok x → {y : ℕ} → y ≡ pick (eqb (get_or keeps e 0) 1) 1 0 → Checking ms es xs areas symbols s keeps n x (e + 1) (p + y)
     checking-more {x} g ey = record {
       whole = w.whole;
       inside = omega arith;

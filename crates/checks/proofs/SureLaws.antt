@@ -13,6 +13,8 @@ use lib.Dec.{eqb, ltb, leb}
 use lib.ListN.{get_or, get_elem?}
 use borrow.Author.Rules.{rules}
 use borrow.Author.Tests.{lt-ltb, eqb-true, eqb-false, ltb-true, leb-true, not-true, not-false}
+use Rattle.std.specs.Prelude.{Result, Ok, Err}
+use Rattle.checks.specs.declared.check.Fault.TheVariants as fault
 use Rattle.format.specs.Lists.{pick}
 use Rattle.format.specs.Pairs.{Fragment}
 use Rattle.format.specs.Mode.{bit, gives}
@@ -22,9 +24,6 @@ use Rattle.format.specs.Fixups.{Reference, to_area, symbol_ref, reference}
 use Rattle.laws.specs.Rows.{from, areas_in, symbol_at, symbols_in, tables_in, fragment}
 use Rattle.laws.proofs.Outcomes.{Fine, follow}
 use Rattle.sites.specs.declared.Site.{Site}
-use Rattle.row_count.specs.declared.RowCount.{RowCount}
-use Rattle.row_count.specs.declared.RowCount.TheVariants.{Refused, Rows}
-use Rattle.checks.specs.declared.check.Checked.TheVariants as checked
 use Rattle.references.specs.References.{refers_at}
 use Rattle.sites.specs.Columns.{fragment_at, fragments_in}
 use Rattle.row_count.specs.Count.{count_one, count_to}
@@ -170,13 +169,13 @@ module _ (ms es xs areas symbols : List ℕ) (s : Site) (keeps : List ℕ) where
       (λ i l. u.held.each i (omega arith)) (omega (arith, u.counted.numbers)) r)
       u.counted.room
 
-  pub pass-sure : {b : Bool} → (b ≡ true → Sure s ms xs) → b ≡ true → Passes (count_line ms es xs areas symbols s keeps) (Rows s.filled.fixups)
+  pub pass-sure : {b : Bool} → (b ≡ true → Sure s ms xs) → b ≡ true → Passes (count_line ms es xs areas symbols s keeps) (Ok s.filled.fixups)
   pass-sure f e = record {
     stops = λ x g. let z : ◌≡◌ {A = ℕ} 0 1 = cc in absurd (omega arith);
     goes = λ x g place. rw (line-up (f e) place).is-fine;
   }
 
-  pub pass-tallied : {k : ℕ} {r : RowCount} → Tallied (count_line ms es xs areas symbols s keeps) k r → Passes (count_line ms es xs areas symbols s keeps) r
+  pub pass-tallied : {k : ℕ} {r : Result ℕ ℕ} → Tallied (count_line ms es xs areas symbols s keeps) k r → Passes (count_line ms es xs areas symbols s keeps) r
   pass-tallied a = record {
     stops = λ x g place. sym (rw g at (a.says place));
     goes = λ x g place. rw (← a.says place, g);
@@ -186,7 +185,7 @@ pub ruleset sparing = (rules, pass-sure, pass-tallied)
 
 -- `check_pair`: t is the test of the bounds
 module _ (ms es xs areas symbols : List ℕ) (s : Site) (keeps : List ℕ) {t : Bool} (et : t ≡ is_ready s) where
-  pub check-misfit : not t ≡ true → Judged s (count_line ms es xs areas symbols s keeps) checked.Misfit
+  pub check-misfit : not t ≡ true → Judged s (count_line ms es xs areas symbols s keeps) (Err fault.Misfit)
   check-misfit h = record { says = λ place. rw (← et, not-true t h) }
 
   module _ (k : not t ≡ false) where
@@ -196,11 +195,11 @@ module _ (ms es xs areas symbols : List ℕ) (s : Site) (keeps : List ℕ) {t : 
     pub check-ready : Ready s
     check-ready = ready_by s is_true
 
-    module _ {r : RowCount} (a : Passes (count_line ms es xs areas symbols s keeps) r) where
-      pub check-refused : {n : ℕ} → r ≡ Refused n → Judged s (count_line ms es xs areas symbols s keeps) (checked.Refused n)
+    module _ {r : Result ℕ ℕ} (a : Passes (count_line ms es xs areas symbols s keeps) r) where
+      pub check-refused : {n : ℕ} → r ≡ Err n → Judged s (count_line ms es xs areas symbols s keeps) (Err (fault.Refused n))
       check-refused {n} g = record { says = λ place. rw (is_true, a.stops n g place) }
 
-      pub check-passed : {n : ℕ} → r ≡ Rows n → Judged s (count_line ms es xs areas symbols s keeps) checked.Passed
+      pub check-passed : {n : ℕ} → r ≡ Ok n → Judged s (count_line ms es xs areas symbols s keeps) (Ok tt)
       check-passed {n} g = record { says = λ place. rw is_true (go (count_line ms es xs areas symbols s keeps place) (a.goes n g place)) }
         where
           go : (o : Outcome ℕ) → is_fine o ≡ true → some (fine 0) ≡ some (verdict o)

@@ -1,18 +1,16 @@
 -- The check pass: how many fixups there are behind a fragment, an entry, a line; 11, 12 and 13.
 -- Assumes nothing.
-use Rattle.std.specs.Prelude.{ℕ, zero, suc, ◌+◌, ◌≤◌, ◌≡◌, Bool, true, false, List, [], ◌∷◌, eqb, ltb, get_or}
+use Rattle.checks.specs.declared.check.Fault.{Fault}
+use Rattle.checks.specs.declared.check.Fault.TheVariants as fault
+use Rattle.std.specs.Prelude.{ℕ, zero, suc, ◌+◌, ◌≤◌, ◌≡◌, Bool, true, false, List, [], ◌∷◌, eqb, ltb, get_or, Result, Ok, Err}
 use Rattle.std.proofs.Math.Option.{Option, none, some}
 use Rattle.format.specs.Lists.{pick}
 use Rattle.format.specs.Pairs.{Fragment}
 use Rattle.format.specs.Outcome.{Outcome, fine, refused, and_then}
 use Rattle.format.specs.Tables.{Tables}
 use Rattle.sites.specs.declared.Site.{Site}
-use Rattle.row_count.specs.declared.RowCount.{RowCount}
-use Rattle.row_count.specs.declared.RowCount.TheVariants.{Refused, Rows}
 use Rattle.row_count.specs.Count.{count_to, told_count, used_by}
 use Rattle.sites.specs.Site.{is_ready, tables_for}
-use Rattle.checks.specs.declared.check.Checked.{Checked}
-use Rattle.checks.specs.declared.check.Checked.TheVariants as checked
 use Rattle.references.specs.References.{refers_at}
 use Rattle.sites.specs.Columns.{fragments_in}
 
@@ -41,7 +39,7 @@ count_line ms es xs areas symbols s keeps place =
     count_walk (tables_for areas symbols s.filled) s.made s.size (fragments_in ms es xs s.line.fragments) keeps (s.line.width + s.line.bytes) 0 s.line.address s.filled.fixups place
 
 -- a tally of rows: what it says, and that there is room for them
-pub record Tallied (o : ℕ → Outcome ℕ) (k : ℕ) (r : RowCount) : Type 0 where
+pub record Tallied (o : ℕ → Outcome ℕ) (k : ℕ) (r : Result ℕ ℕ) : Type 0 where
   pub says : (place : ℕ) → told_count place r ≡ o place
   pub room : used_by r ≤ 1024
   pub grew : k ≤ used_by r
@@ -51,9 +49,9 @@ is_fine (fine k) = true
 is_fine (refused n p) = false
 
 -- the same without the count: a refusal is the definition's, and where there is none the definition has none
-pub record Passes (o : ℕ → Outcome ℕ) (r : RowCount) : Type 0 where
-  pub stops : (x : ℕ) → r ≡ Refused x → (place : ℕ) → o place ≡ refused x place
-  pub goes : (x : ℕ) → r ≡ Rows x → (place : ℕ) → is_fine (o place) ≡ true
+pub record Passes (o : ℕ → Outcome ℕ) (r : Result ℕ ℕ) : Type 0 where
+  pub stops : (x : ℕ) → r ≡ Err x → (place : ℕ) → o place ≡ refused x place
+  pub goes : (x : ℕ) → r ≡ Ok x → (place : ℕ) → is_fine (o place) ≡ true
 
 -- a count without its number: 0 where there is no refusal
 abbrev pub verdict : Outcome ℕ → Outcome ℕ
@@ -61,11 +59,11 @@ verdict (fine k) = fine 0
 verdict (refused n p) = refused n p
 
 -- what the check pass answers
-abbrev pub told_check : (place : ℕ) → Checked → Option (Outcome ℕ)
-told_check place checked.Misfit = none
-told_check place (checked.Refused n) = some (refused n place)
-told_check place checked.Passed = some (fine 0)
+abbrev pub told_check : (place : ℕ) → Result (Unit {0}) Fault → Option (Outcome ℕ)
+told_check place (Err fault.Misfit) = none
+told_check place (Err (fault.Refused n)) = some (refused n place)
+told_check place (Ok u) = some (fine 0)
 
 -- the check pass of a site: a misfit, a refusal, or none
-pub record Judged (s : Site) (o : ℕ → Outcome ℕ) (r : Checked) : Type 0 where
+pub record Judged (s : Site) (o : ℕ → Outcome ℕ) (r : Result (Unit {0}) Fault) : Type 0 where
   pub says : (place : ℕ) → told_check place r ≡ pick (is_ready s) (some (verdict (o place))) none

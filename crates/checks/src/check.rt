@@ -5,15 +5,14 @@ ghost use Rattle.checks.specs.Check.{count_entry, count_line, Tallied, Passes, J
 
 use crate::sure::sure;
 use references::refers_at;
-use row_count::{RowCount, count_to, grows};
+use row_count::{count_to, grows};
 use sites::{Site, is_ready};
 
-// That the numbers do not fit, a refusal's number, or that there is no refusal.
+// Why a pair is not placed: that the numbers do not fit, or a refusal's number.
 #[derive(Clone, Copy)]
-pub enum Checked {
+pub enum Fault {
     Misfit,
     Refused(u32),
-    Passed,
 }
 
 // The fragments of the entry e, in order.
@@ -26,23 +25,17 @@ fn check_entry(
     symbols: &[u32],
     e: u32,
     k: usize,
-) -> RowCount
+) -> Result<usize, u32>
     requires ready { Ready site }
     requires k_bound { k ≤ 1024 }
     ensures { Tallied (count_entry ms.now es.now xs.now areas.now symbols.now site e k) k result }
 {
     let mut j = k;
-    let mut i: usize = 0;
-    while i < site.line.fragments {
+    for i in 0..site.line.fragments {
         let to = refers_at(ms, es, xs, areas, symbols, site.filled, i, e);
-        let r = count_to(to, i, site.made, j);
-        let RowCount::Rows(x) = r else {
-            return r;
-        };
-        j = x;
-        i += 1;
+        j = count_to(to, i, site.made, j)?;
     }
-    RowCount::Rows(j)
+    Ok(j)
 }
 
 // The entries from 0 on, while the position is inside the area.
@@ -54,27 +47,21 @@ fn check_line(
     areas: &[u32],
     symbols: &[u32],
     wk: &[u8],
-) -> RowCount
+) -> Result<usize, u32>
     requires { Ready site }
     ensures { Tallied (count_line ms.now es.now xs.now areas.now symbols.now site wk.now) site.filled.fixups result }
 {
     let n = (site.line.width + site.line.bytes) as u32;
     let mut k = site.filled.fixups;
-    let mut e: u32 = 0;
     let mut p = site.line.address;
-    while e < n {
+    for e in 0..n {
         if site.size <= p {
-            return RowCount::Rows(k);
+            return Ok(k);
         }
-        let r = check_entry(site, ms, es, xs, areas, symbols, e, k);
-        let RowCount::Rows(x) = r else {
-            return r;
-        };
+        k = check_entry(site, ms, es, xs, areas, symbols, e, k)?;
         p += grows(wk, e);
-        k = x;
-        e += 1;
     }
-    RowCount::Rows(k)
+    Ok(k)
 }
 
 // The same, spared where it is sure that no refusal comes: then no fixups are counted.
@@ -86,12 +73,12 @@ fn passes(
     areas: &[u32],
     symbols: &[u32],
     wk: &[u8],
-) -> RowCount
+) -> Result<usize, u32>
     requires { Ready site }
     ensures { Passes (count_line ms.now es.now xs.now areas.now symbols.now site wk.now) result }
 {
     if sure(site, ms, xs) {
-        return RowCount::Rows(site.filled.fixups);
+        return Ok(site.filled.fixups);
     }
     check_line(site, ms, es, xs, areas, symbols, wk)
 }
@@ -105,14 +92,14 @@ pub fn check_pair(
     areas: &[u32],
     symbols: &[u32],
     wk: &[u8],
-) -> Checked
+) -> Result<(), Fault>
     ensures { Judged site (count_line ms.now es.now xs.now areas.now symbols.now site wk.now) result }
 {
     if !is_ready(site) {
-        return Checked::Misfit;
+        return Err(Fault::Misfit);
     }
     match passes(site, ms, es, xs, areas, symbols, wk) {
-        RowCount::Refused(n) => Checked::Refused(n),
-        RowCount::Rows(_) => Checked::Passed,
+        Err(n) => Err(Fault::Refused(n)),
+        Ok(_) => Ok(()),
     }
 }

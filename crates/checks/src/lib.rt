@@ -4,4 +4,4 @@
 mod check;
 mod sure;
 
-pub use check::{Checked, check_pair};
+pub use check::{Fault, check_pair};

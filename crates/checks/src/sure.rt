@@ -10,22 +10,17 @@ use sites::Site;
 fn held(mode: u32, index: u32, n: usize) -> bool
     ensures { result ≡ true → Held mode index n }
 {
-    if mode / 2 % 2 == 1 {
-        return wide(index) < n;
-    }
-    true
+    mode / 2 % 2 != 1 || wide(index) < n
 }
 
 // Whether that holds for the first c fragments.
 fn all_held(ms: &[u32], xs: &[u32], c: usize, n: usize) -> bool
     ensures { result ≡ true → AllHeld ms.now xs.now n c }
 {
-    let mut i: usize = 0;
-    while i < c {
+    for i in 0..c {
         if !held(at(ms, i), at(xs, i), n) {
             return false;
         }
-        i += 1;
     }
     true
 }
@@ -36,10 +31,7 @@ fn counted(site: Site) -> bool
     ensures { result ≡ true → Counted site }
 {
     let c = site.line.fragments;
-    if site.made < c {
-        return false;
-    }
-    site.filled.fixups + (site.line.width + site.line.bytes) * c <= 1024
+    c <= site.made && site.filled.fixups + (site.line.width + site.line.bytes) * c <= 1024
 }
 
 // Whether both do.
@@ -47,8 +39,5 @@ pub(crate) fn sure(site: Site, ms: &[u32], xs: &[u32]) -> bool
     requires { Ready site }
     ensures { result ≡ true → Sure site ms.now xs.now }
 {
-    if counted(site) {
-        return all_held(ms, xs, site.line.fragments, site.filled.symbols);
-    }
-    false
+    counted(site) && all_held(ms, xs, site.line.fragments, site.filled.symbols)
 }

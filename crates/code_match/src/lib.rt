@@ -18,12 +18,10 @@ pub fn first_mismatch(values: &[u8], masks: &[u8], code: &[u8]) -> usize
     ensures { result ≡ mismatch_from values.now masks.now code.now 0 (length code.now) }
 {
     let n = code.len();
-    let mut i: usize = 0;
-    while i < n {
+    for i in 0..n {
         if !agrees(byte_at(values, i), byte_at(masks, i), byte_at(code, i)) {
             return i;
         }
-        i += 1;
     }
     n
 }

@@ -51,48 +51,44 @@ pub fn tell_words(name: &[u8], words: &[u8]) {
     write_line(s4, &line)
 }
 
-// Tells words of a module, behind what was listed before.
-pub fn tell(s: Sink, out: &Buffer, name: &[u8], words: &[u8]) -> Sink
+// Writes what was listed before, and tells something behind it, unless that was lost.
+fn behind<F: FnOnce()>(s: Sink, out: &Buffer, told: F) -> Sink
+    requires { F.IsAlwaysCallable told }
     ensures { Written s result }
 {
     let t = sink::flush(s, out);
     if !t.broken {
-        tell_words(name, words);
+        told();
     }
     t
+}
+
+// Tells words of a module, behind what was listed before.
+pub fn tell(s: Sink, out: &Buffer, name: &[u8], words: &[u8]) -> Sink
+    ensures { Written s result }
+{
+    behind(s, out, || tell_words(name, words))
 }
 
 // Tells why a call failed, behind what was listed before.
 pub fn complain(s: Sink, out: &Buffer, name: &[u8], why: Failure) -> Sink
     ensures { Written s result }
 {
-    let t = sink::flush(s, out);
-    if !t.broken {
-        tell_reason(name, why);
-    }
-    t
+    behind(s, out, || tell_reason(name, why))
 }
 
 // Tells where a module's reading stopped, behind what was listed before.
 pub fn tell_stopped(s: Sink, out: &Buffer, name: &[u8], place: usize) -> Sink
     ensures { Written s result }
 {
-    let t = sink::flush(s, out);
-    if !t.broken {
-        tell_place(name, place);
-    }
-    t
+    behind(s, out, || tell_place(name, place))
 }
 
 // Tells of a module's refusal, behind what was listed before.
 pub fn tell_refused(s: Sink, out: &Buffer, name: &[u8], number: usize, place: usize) -> Sink
     ensures { Written s result }
 {
-    let t = sink::flush(s, out);
-    if !t.broken {
-        tell_number(name, number, place);
-    }
-    t
+    behind(s, out, || tell_number(name, number, place))
 }
 
 // The option that waits at the start of a buffer, or how it begins.
@@ -114,7 +110,7 @@ pub fn tell_option(rt: &impl Env, i: usize) {
 // Writes an option of n bytes, or how it begins where n is 0.
 fn option_of(word: &mut [u8; 66], n: usize) {
     if n == 0 {
-        cells::copy_bytes(word, 64, b"..", 2);
+        word[64..].copy_from_slice(b"..");
         write_option(word, 66)
     } else {
         write_option(word, n)

@@ -2,7 +2,7 @@
 ghost use Rattle.std.specs.Prelude.{length};
 ghost use Rattle.bulk.specs.Inputs.{Within};
 
-use bulk::Input;
+use host::Failure;
 use rooms::INPUT_ROOM;
 use std::io::Read;
 
@@ -10,7 +10,7 @@ use std::io::Read;
 pub type Room = [u8; INPUT_ROOM];
 
 // Reads a text into the whole room.
-pub fn fill(reader: &mut impl Read, room: &mut Room) -> Input
+pub fn fill(reader: &mut impl Read, room: &mut Room) -> Result<usize, Failure>
     ensures { Within result (length room.old) }
 {
     bulk::fill(reader, room)

@@ -6,7 +6,6 @@ mod complaint;
 mod input;
 
 pub use arguments::{Operand, Request, asked, asked_from, asks_why, operand_at};
-pub use bulk::Input;
 pub use complaint::{
     complain, tell, tell_number, tell_option, tell_place, tell_reason, tell_refused, tell_stopped,
     tell_words,

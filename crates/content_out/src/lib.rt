@@ -15,10 +15,8 @@ pub fn put_bytes(out: &mut [u8], at: usize, bytes: &[u8]) -> usize
     ensures { Wrote (hex_bytes bytes.now) out.old at result out.new }
 {
     let mut p = at;
-    let mut i = 0;
-    while i < bytes.len() {
-        p = put_byte(out, p, bytes[i]);
-        i += 1;
+    for b in bytes {
+        p = put_byte(out, p, *b);
     }
     p
 }

@@ -4,7 +4,7 @@
 mod module;
 mod told;
 
-use console::{Input, Request, Room};
+use console::{Request, Room};
 use host::Host;
 use rooms::INPUT_ROOM;
 
@@ -17,8 +17,8 @@ fn convert_first(room: &Room, n: usize) {
 fn convert_standard(rt: &impl Host) {
     let mut room = [0u8; INPUT_ROOM];
     match console::fill(&mut rt.reader(), &mut room) {
-        Input::Failed(why) => console::tell_reason(b"-", why),
-        Input::Text(n) => convert_first(&room, n),
+        Err(why) => console::tell_reason(b"-", why),
+        Ok(n) => convert_first(&room, n),
     }
 }
 

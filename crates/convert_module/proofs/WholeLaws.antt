@@ -16,8 +16,10 @@ use Rattle.format.specs.Held.{lengths}
 use Rattle.record_rows.specs.ReadPairs.{roomy}
 use Rattle.answer.specs.Answer as reads
 use Rattle.answer.specs.Answer.{held}
-use Rattle.answer.specs.declared.Answer.{Answer}
-use Rattle.answer.specs.declared.Answer.TheVariants.{Accepted, Refusal}
+use Rattle.std.specs.Prelude.{Ok, Err}
+use Rattle.answer.specs.Answer.{Answer}
+use Rattle.answer.specs.declared.Accepted.{Accepted}
+use Rattle.answer.specs.declared.Refusal.{Refusal}
 use Rattle.answer.specs.declared.Counts.{Counts}
 use Rattle.answer.specs.declared.Verdict.{Verdict}
 use Rattle.converted.specs.Convert as converts
@@ -75,15 +77,17 @@ module _ {text xs ys vs ms fs : List ℕ} (room : Roomy (length xs) (length ys) 
 -- `convert_with`
 module _ {text xs ys vs ms fs : List ℕ} (room : Roomy (length xs) (length ys) (length vs) (length ms) (length fs)) {xs' ys' vs' ms' fs' : List ℕ} {a : Answer}
     (m : MeetsAny text (held xs ys vs ms fs) (reads.told a) (held xs' ys' vs' ms' fs')) where
-  pub convert-refused : {n p : ℕ} → a ≡ Refusal n p → (out : List ℕ) → Converts text out (refusal n p) out
+  pub convert-refused : {z : Refusal} → a ≡ Err z → (out : List ℕ) → Converts text out (refusal z.number z.place) out
   unfolding convert
-  convert-refused {n} {p} g out =
+  convert-refused {z} g out =
+      let n = z.number in
+      let p = z.place in
       let o : read_any roomy text ≡ refused n p = was-refused text (read_any roomy text) n p (ap reads.told (sym g) ∙ says room m) in
       let k : convert text ≡ converts.refusal n p = ap (convert_of text) o in
       record { says = sym (ap (answer_of out) k); held = sym (ap (held_of out) k) }
 
-  pub convert-judged : {c : Counts} {v : Verdict} → a ≡ Accepted c v → Judged text xs' c.areas ys' c.symbols v
-  convert-judged {c} {v} g = judged room m c v (ap reads.told g)
+  pub convert-judged : {x : Accepted} → a ≡ Ok x → Judged text xs' x.counts.areas ys' x.counts.symbols x.verdict
+  convert-judged {x} g = judged room m x.counts x.verdict (ap reads.told g)
 
 pub ruleset wholes = (rules, convert-refused, convert-judged)
 

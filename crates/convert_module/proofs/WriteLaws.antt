@@ -22,8 +22,9 @@ use Rattle.record_rows.specs.RecordRows.{content_bytes, fragment_rows, pair_coun
 use Rattle.pairs_answer.specs.Told as rows
 use Rattle.pairs_answer.specs.Told.{held}
 use Rattle.pair_rows.specs.declared.PairCounts.{PairCounts}
-use Rattle.pairs_answer.specs.declared.PairsAnswer.{PairsAnswer}
-use Rattle.pairs_answer.specs.declared.PairsAnswer.TheVariants as pairs
+use Rattle.std.specs.Prelude.{Ok, Err}
+use Rattle.answer.specs.declared.Refusal as answers
+use Rattle.pairs_answer.specs.Told.{PairsAnswer}
 use Rattle.row_texts.specs.RowRecords.{Rows, lent, text_of}
 use Rattle.row_texts.specs.GivesBack.{GivesBack}
 use Rattle.row_records.specs.Left.{Left}
@@ -32,8 +33,8 @@ use Rattle.written.specs.Alike.{rewritten}
 use Rattle.written_answer.specs.Answer as writing
 use Rattle.writer.specs.Writes.{Writes}
 use Rattle.written_answer.specs.Answer.{Tells}
-use Rattle.written_answer.specs.declared.Written.{Written}
-use Rattle.written_answer.specs.declared.Written.TheVariants as wrote
+use Rattle.std.specs.Prelude.{Result, Ok, Err}
+use Rattle.written_answer.specs.declared.Refusal as wrote
 use Rattle.converted.specs.Convert as converts
 use Rattle.converted.specs.Convert.{by_verdict, convert, convert_of, rewrite}
 use Rattle.convert_answer.specs.Converts.{Answer, Converts, answer_of, bytes, held_of, refusal, told}
@@ -43,10 +44,10 @@ use Rattle.convert_answer.specs.declared.Converted.TheVariants.{Bytes, Refusal}
 use Rattle.convert_module.proofs.Steps.{steps}
 
 -- `as_written`
-pub written-refused : {a : Written} {n p : ℕ} → a ≡ wrote.Refusal n p → told (Refusal n p) ≡ written (writing.told a)
+pub written-refused : {a : Result ℕ wrote.Refusal} {s : wrote.Refusal} → a ≡ Err s → told (Refusal s.number s.place) ≡ written (writing.told a)
 written-refused e = rw e
 
-pub written-bytes : {a : Written} {n : ℕ} → a ≡ wrote.Bytes n → told (Bytes n) ≡ written (writing.told a)
+pub written-bytes : {a : Result ℕ wrote.Refusal} {n : ℕ} → a ≡ Ok n → told (Bytes n) ≡ written (writing.told a)
 written-bytes e = rw e
 
 pub ruleset answering = (rules, written-refused, written-bytes)
@@ -169,10 +170,10 @@ no-refusal n p c e = let z : ◌≡◌ {A = ℕ} 0 1 = cc in let y : ⊥ = omega
 -- `write_with`
 module _ {text areas symbols : List ℕ} {f : Form} {na ns : ℕ} (w : Whole text f areas na symbols ns) {ps bs fs : List ℕ} (lp : length ps ≡ 28672) (lb : length bs ≡ 32768) (lf : length fs ≡ 24576)
     {ps' bs' fs' : List ℕ} {a : PairsAnswer} (m : PairsMeetAny text (held ps bs fs) (rows.told a) (held ps' bs' fs')) where
-  pub pairs-there : {n p : ℕ} → a ≡ pairs.Refusal n p → (x : Answer) (out : List ℕ) → Converts text out x out
-  pairs-there {n} {p} g x out = no-refusal n p _ (ap rows.told (sym g) ∙ answered w lp lb lf m)
+  pub pairs-there : {z : answers.Refusal} → a ≡ Err z → (x : Answer) (out : List ℕ) → Converts text out x out
+  pairs-there {z} g x out = no-refusal z.number z.place _ (ap rows.told (sym g) ∙ answered w lp lb lf m)
 
-  pub write-told : {c : PairCounts} → a ≡ pairs.Accepted c → {b : writing.Answer} {out out' : List ℕ} → Writes f (lent text areas na symbols ns ps' c.pairs bs' fs') out b out'
+  pub write-told : {c : PairCounts} → a ≡ Ok c → {b : writing.Answer} {out out' : List ℕ} → Writes f (lent text areas na symbols ns ps' c.pairs bs' fs') out b out'
       → {x : Answer} → x ≡ written b → Converts text out x out'
   write-told {c} g {b} {out} {out'} y {x} e =
       let n = pairs-counted c w.kept.read.parsed.records.pairs (ap rows.told (sym g) ∙ answered w lp lb lf m) in

@@ -8,21 +8,20 @@ ghost use Rattle.convert_module.specs.Written.{written};
 
 use convert_answer::Converted;
 use header::Form;
-use pairs_answer::PairsAnswer;
 use records::read_any_pairs;
 use writer::write_module;
-use written_answer::Written;
+use written_answer::Refusal;
 
 // The writer's answer.
-fn as_written(answer: Written) -> Converted
+fn as_written(answer: Result<usize, Refusal>) -> Converted
     ensures { told result ≡ written (writing.told answer) }
 {
     match answer {
-        Written::Refusal { number, place } => Converted::Refusal {
-            number: number,
-            place: place,
+        Err(why) => Converted::Refusal {
+            number: why.number,
+            place: why.place,
         },
-        Written::Bytes { count } => Converted::Bytes { count: count },
+        Ok(count) => Converted::Bytes { count: count },
     }
 }
 
@@ -43,11 +42,11 @@ fn write_with(
     ensures { Converts text.now out.old (told result) out.new }
 {
     match read_any_pairs(text, pairs, content, fragments) {
-        PairsAnswer::Refusal { number, place } => Converted::Refusal {
-            number: number,
-            place: place,
+        Err(refusal) => Converted::Refusal {
+            number: refusal.number,
+            place: refusal.place,
         },
-        PairsAnswer::Accepted { counts } => as_written(write_module(
+        Ok(counts) => as_written(write_module(
             form,
             text,
             areas,

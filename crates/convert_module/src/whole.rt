@@ -5,7 +5,7 @@ ghost use Rattle.convert_module.specs.Kept.{Judged, Roomy};
 
 use crate::kept::write_kept;
 use crate::stop::stopped_at;
-use answer::{Answer, Verdict};
+use answer::Verdict;
 use convert_answer::Converted;
 use header::Head;
 use reading::read_any;
@@ -51,17 +51,17 @@ fn convert_with(
     ensures { Converts text.now out.old (told result) out.new }
 {
     match read_any(text, areas, symbols, values, masks, fixups) {
-        Answer::Refusal { number, place } => Converted::Refusal {
-            number: number,
-            place: place,
+        Err(refusal) => Converted::Refusal {
+            number: refusal.number,
+            place: refusal.place,
         },
-        Answer::Accepted { counts, verdict } => judge(
+        Ok(told) => judge(
             text,
-            verdict,
+            told.verdict,
             areas,
-            counts.areas,
+            told.counts.areas,
             symbols,
-            counts.symbols,
+            told.counts.symbols,
             out,
         ),
     }

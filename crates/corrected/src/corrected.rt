@@ -6,7 +6,7 @@ ghost use Rattle.target_asked.specs.Asked.{told};
 ghost use Rattle.corrected.specs.Corrected.{ahead_of, leads_to};
 
 use mode::JumpType;
-use target_asked::{Answer, is_allowed, refused};
+use target_asked::{Refusal, is_allowed, refused};
 use target_parts::{in_block, near, number_bit, signed_start, start};
 use target_words::{add64, behind, byte_at, has, sub64, wide};
 
@@ -47,12 +47,18 @@ fn leads_to(class: JumpType, mode: u32, big: bool, number: u32, address: u64, by
 }
 
 // The corrected target of a fixup: the mode, the order, the number and the address of its bytes, and the bytes on site.
-pub fn corrected_target(mode: u32, big: bool, number: u32, address: u64, bytes: &[u8]) -> Answer
+pub fn corrected_target(
+    mode: u32,
+    big: bool,
+    number: u32,
+    address: u64,
+    bytes: &[u8],
+) -> Result<u64, Refusal>
     ensures { told result ≡ defs.corrected big mode number bytes.now address }
 {
     let class = mode::class_of(mode);
     if is_allowed(class, mode, number, bytes.len()) {
-        Answer::At(leads_to(class, mode, big, number, address, bytes))
+        Ok(leads_to(class, mode, big, number, address, bytes))
     } else {
         refused()
     }

@@ -1,14 +1,13 @@
 -- The code's answers about the H line as the definition's ones, and where group one ends.
 -- Assumes nothing.
-use Rattle.std.specs.Prelude.{ℕ, true, List, map}
+use Rattle.std.specs.Prelude.{ℕ, true, List, map, Some, None}
+use Rattle.std.specs.Prelude as std
 use Rattle.std.proofs.Math.Option.{Option, none, some}
 use Rattle.format.specs.Header.{Form}
 use Rattle.format.specs.Entries.{Entry}
 use Rattle.format.specs.Records.{Step, Taken, goes, last, last_of, stops}
 use Rattle.laws.specs.Places.{records_at}
 use Rattle.counts.specs.Counts as the
-use Rattle.counts_of.specs.declared.End.{End}
-use Rattle.counts_of.specs.declared.End.TheVariants.{At, Stops}
 use Rattle.counts_of.specs.declared.Counted.{Counted}
 use Rattle.counts_of.specs.declared.Counted.TheVariants.{Equal, NotEqual, NotTold}
 
@@ -17,9 +16,10 @@ told_counted Equal = the.equal
 told_counted NotEqual = the.not_equal
 told_counted NotTold = the.not_told
 
-abbrev pub told_end : End → Option ℕ
-told_end (At n) = some n
-told_end Stops = none
+-- where group one goes on behind a line, or that it stops there
+abbrev pub told_end : std.Option ℕ → Option ℕ
+told_end (Some n) = some n
+told_end None = none
 
 -- where a step goes on
 abbrev pub end_after : Step Entry → Option ℕ

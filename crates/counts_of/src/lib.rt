@@ -7,20 +7,12 @@ ghost use Rattle.counts.specs.Counts.{compared, told_from};
 ghost use Rattle.h_line.specs.Told.{two_of};
 ghost use Rattle.counts_of.specs.Told.{told_counted};
 
-use h_line::Told;
 use header::Form;
 use walk::first_told;
 
 mod walk;
 
 pub use walk::{entry_end, group_one_end};
-
-// Where group one goes on behind a line, or that it stops there.
-#[derive(Clone, Copy)]
-pub enum End {
-    At { next: usize },
-    Stops,
-}
 
 // What is told and what was counted are equal, or not equal, or nothing is told.
 #[derive(Clone, Copy)]
@@ -30,29 +22,15 @@ pub enum Counted {
     NotTold,
 }
 
-// A number of 32 bits as a count.
-fn wide(x: u32) -> usize
-    ensures { result ≡ x }
-{
-    x as usize
-}
-
 // What the text behind a header line that ends at head tells, compared with the counted areas and symbols.
 pub fn told_counts(t: &[u8], head: usize, form: Form, areas: usize, symbols: usize) -> Counted
     ensures { told_counted result ≡ compared (told_from (form_of form) t.now head) (two_of areas symbols) }
 {
-    let Told::Two {
-        areas: a,
-        symbols: s,
-    } = first_told(t, head, form)
-    else {
+    let Some(told) = first_told(t, head, form) else {
         return Counted::NotTold;
     };
-    if wide(a) != areas {
-        return Counted::NotEqual;
+    if told.areas as usize == areas && told.symbols as usize == symbols {
+        return Counted::Equal;
     }
-    if wide(s) != symbols {
-        return Counted::NotEqual;
-    }
-    Counted::Equal
+    Counted::NotEqual
 }

@@ -6,38 +6,34 @@ ghost use Rattle.counts.specs.Counts.{tells_at, told_from};
 ghost use Rattle.h_line.specs.Told.{told_two};
 ghost use Rattle.counts_of.specs.Told.{told_end, end_after, group_one_end};
 
-use crate::End;
-use entry_line::EntryLine;
 use h_line::{Told, tells};
 use header::Form;
 use line_step::whole;
 
 // Where the ended reading goes on behind the line at a place, if group one takes that line.
-pub fn entry_end(t: &[u8], p: usize, form: Form) -> End
+pub fn entry_end(t: &[u8], p: usize, form: Form) -> Option<usize>
     ensures { told_end result ≡ end_after (entry_at true (form_of form) t.now p) }
 {
     if t.len() < p {
-        return End::Stops;
+        return None;
     }
     let l = text_lines::line_at(t, p);
     let q = l.end;
-    let n = q - p;
-    let y = entry_line::parse_entry(&t[p..q], form);
-    let EntryLine::Is { entry: _, used } = y else {
-        return End::Stops;
+    let Ok(entry) = entry_line::parse_entry(&t[p..q], form) else {
+        return None;
     };
-    if whole(used, n, l.ends) {
-        return End::At { next: l.next };
+    if whole(entry.next, q - p, l.ends) {
+        return Some(l.next);
     }
-    End::Stops
+    None
 }
 
 // What the line at a place tells.
-fn tells_at(t: &[u8], p: usize, radix: u8) -> Told
+fn tells_at(t: &[u8], p: usize, radix: u8) -> Option<Told>
     ensures { told_two result ≡ tells_at radix t.now p }
 {
     if t.len() < p {
-        return Told::Nothing;
+        return None;
     }
     let l = text_lines::line_at(t, p);
     let q = l.end;
@@ -45,21 +41,18 @@ fn tells_at(t: &[u8], p: usize, radix: u8) -> Told
 }
 
 // The first line of group one that tells, from a place on.
-pub(crate) fn first_told(t: &[u8], head: usize, form: Form) -> Told
+pub(crate) fn first_told(t: &[u8], head: usize, form: Form) -> Option<Told>
     ensures { told_two result ≡ told_from (form_of form) t.now head }
 {
     let mut p = head;
     while p < t.len() {
-        let End::At { next } = entry_end(t, p, form) else {
-            return Told::Nothing;
-        };
-        let told = tells_at(t, p, form.radix);
-        let Told::Nothing = told else {
-            return told;
-        };
+        let next = entry_end(t, p, form)?;
+        if let Some(told) = tells_at(t, p, form.radix) {
+            return Some(told);
+        }
         p = next;
     }
-    Told::Nothing
+    None
 }
 
 // Where group one ends that begins at a place.
@@ -68,7 +61,7 @@ pub fn group_one_end(t: &[u8], head: usize, form: Form) -> usize
 {
     let mut p = head;
     while p < t.len() {
-        let End::At { next } = entry_end(t, p, form) else {
+        let Some(next) = entry_end(t, p, form) else {
             return p;
         };
         p = next;

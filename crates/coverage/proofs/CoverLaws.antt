@@ -42,8 +42,9 @@ use Rattle.record_rows.specs.ReadPairs.{roomy}
 use Rattle.pairs_answer.specs.Told.{held}
 use Rattle.pairs_answer.specs.Told as rows
 use Rattle.admission.specs.Admits.{IsRead}
-use Rattle.pairs_answer.specs.declared.PairsAnswer.{PairsAnswer}
-use Rattle.pairs_answer.specs.declared.PairsAnswer.TheVariants as pairs
+use Rattle.std.specs.Prelude.{Ok, Err}
+use Rattle.answer.specs.declared.Refusal as answers
+use Rattle.pairs_answer.specs.Told.{PairsAnswer}
 use Rattle.record_parts.specs.Parts.{placed_in, placed_of}
 use Rattle.covered.specs.Covered.{CoverMeets, covered_by, map_after, map_in, map_of, marked_by, unwritten_in}
 use Rattle.covered.specs.Covered as def
@@ -179,15 +180,18 @@ pub ruleset by_rows = (rules, covers-few, covers-headless, covers-behind, covers
 
 module _ (s ps₀ bs₀ fs₀ old : List ℕ) (lp : length ps₀ ≡ 28672) (lb : length bs₀ ≡ 32768) (lf : length fs₀ ≡ 24576) (l : 65536 ≤ length old)
     (q : PairsAnswer) {ps bs fs : List ℕ} (m : paper.PairsMeet s (held ps₀ bs₀ fs₀) (rows.told q) (held ps bs fs)) where
-  pub covers-refused : {n p : ℕ} → q ≡ pairs.Refusal n p → CoverMeets s old (told (say.Refused n p)) old
+  refuses-at : {n p : ℕ} → q ≡ (Err (record { number = n; place = p })) → CoverMeets s old (told (say.Refused n p)) old
   unfolding map_in
-  covers-refused {n} {p} e =
+  refuses-at {n} {p} e =
       let g : map_in (length old) s ≡ refused n p = rw (le-leb 65536 (length old) l) (go (read true roomy s) (rw e at (says-it s ps₀ bs₀ fs₀ 0 0 lp lb lf q m))) in
       record { says = ap covered_by (sym g); held = ap (λ (x : Outcome (List ℕ)). map_after x old) (sym g) }
     where
       go : (o : Outcome Read) → paper.refusal n p ≡ (paper.pairs_from o).answer → and_then o (λ w. fine (map_of w.parsed.form w.built.tables w.parsed.records.pairs)) ≡ refused n p
       go (refused a b) h = let x : n ≡ a = cc in let y : p ≡ b = cc in rw (x, y)
       go (fine w) h = let z : ◌≡◌ {A = ℕ} 0 1 = cc in let y : ⊥ = omega arith in absurd y
+
+  pub covers-refused : {z : answers.Refusal} → q ≡ Err z → CoverMeets s old (told (say.Refused z.number z.place)) old
+  covers-refused {z} e = refuses-at {n = z.number} {p = z.place} e
 
 pub ruleset by-records = (rules, covers-refused, records-read, rowed-as)
 

@@ -1,29 +1,26 @@
 -- What the proofs over all pairs share: the loops' invariants, and a law for each return.
 -- Assumes nothing.
-use Prim.Native.Nat.{ℕ, zero, suc, ◌+◌, ◌-◌, ◌*◌, ◌≤◌, ◌<◌}
+use Prim.Native.Nat.{ℕ, suc, ◌+◌, ◌-◌, ◌*◌, ◌≤◌, ◌<◌}
 use mathlib.Core.Path.{◌≡◌, refl, ap, sym, ◌∙◌}
-use mathlib.Core.Bool.{Bool, true, false}
-use mathlib.Core.List.{List, [], ◌∷◌, ◌++◌}
+use mathlib.Core.Bool.{Bool, cond, true, false}
+use mathlib.Core.List.{List, ◌∷◌, ◌++◌}
 use native.Mathlib.Numerals.{add-one}
 use native.Mathlib.Omega.{arith}
-use mir.Val.{Fits}
-use mir.Syntax.{w64}
 use lib.Dec.{eqb}
-use lib.ListN.{length, get_or, take, drop, replicate, length-replicate, drop_of_length-le}
+use lib.ListN.{length, take, drop, replicate, length-replicate, drop_of_length-le}
 use lib.Seq.{drop-cons, sets, sets-eq, take_at}
 use borrow.Author.Rules.{rules}
-use borrow.Author.Tests.{eq-eqb, ne_eqb}
+use Rattle.std.specs.List.{count_by}
+use Rattle.std.proofs.lemmas.List.Recursion.{is_count_by}
 use Rattle.format.specs.Lists.{over, pick}
 use Rattle.format.specs.Header.{Form}
 use Rattle.format.specs.Pairs.{Pair, placed}
 use Rattle.format.specs.Records.{Taken}
 use Rattle.format.specs.Tables.{Tables, total}
-use Rattle.laws.proofs.Areas.{one_at_most}
-use Rattle.order.specs.Writes.{Cell, lay, writes}
 use Rattle.covered.specs.Covered.{map_of, marked_by, unwritten_in}
 use Rattle.covered.proofs.Maps.{map-length, marked_append}
 use Rattle.one_position.specs.Answer.{Held}
-use Rattle.one_position.specs.Back.{no_pair, RowIs, RowsAre}
+use Rattle.one_position.specs.Back.{no_pair, RowsAre}
 use Rattle.coverage.specs.Pair.{RowMarks}
 use Rattle.coverage.specs.Rows.{RowsMark, RowsCover}
 
@@ -60,43 +57,14 @@ module _ {areas : List ℕ} {n : ℕ} {pairs content fragments : List ℕ} {many
 
 pub ruleset rows = (rules, rowing_start, rowing-end, rowing-low, rowing_more)
 
--- `one_if_zero`
-pub is_zero : {x : ℕ} → x ≡ 0 → ◌≡◌ {A = ℕ} 1 (pick (eqb x 0) 1 0)
-is_zero {x} h = rw (eq-eqb x 0 h)
+-- `unwritten`: one position more
+one_more : (b : Bool) (k : ℕ) → pick b 1 0 + k ≡ cond b (1 + k) k
+one_more true k = refl
+one_more false k = omega arith
 
-pub is-marked : {x : ℕ} → (x ≡ 0 → ⊥) → ◌≡◌ {A = ℕ} 0 (pick (eqb x 0) 1 0)
-is-marked {x} h = rw (ne_eqb x 0 h)
-
-pub ruleset zeros = (rules, is_zero, is-marked)
-
--- `unwritten`: so many of the first i positions are not marked
-pub record Counting (map : List ℕ) (n count i : ℕ) : Type 0 where
-  pub inside : i ≤ n
-  pub low : count ≤ i
-  pub rest : unwritten_in (take n map) ≡ count + unwritten_in (take (n - i) (drop i map))
-
-pub count-start : (map : List ℕ) (n : ℕ) → Counting map n 0 0
-count-start map n = let z : n - 0 ≡ n = omega arith in record { inside = omega arith; low = omega arith; rest = rw z (omega arith) }
-
-module _ {map : List ℕ} {n count i : ℕ} (w : Counting map n count i) where
-  pub count-end : n ≤ i → count ≡ unwritten_in (take n map)
-  unfolding unwritten_in
-  count-end l = let z : n - i ≡ 0 = omega arith in let e : unwritten_in (take (n - i) (drop i map)) ≡ 0 = rw z in omega (arith, w.rest)
-
-  module _ (h : n ≤ length map) (l : i < n) {x : ℕ} (e : x ≡ pick (eqb (get_or map i 0) 0) 1 0) where
-    pub count_fits : n < 18446744073709551616 → Fits w64 (count + x)
-    count_fits m = record { fits = omega (arith, w.low, e, one_at_most (eqb (get_or map i 0) 0)) }
-
-    next : unwritten_in (take (n - i) (drop i map)) ≡ x + unwritten_in (take (n - suc i) (drop (suc i) map))
-    unfolding unwritten_in
-    next =
-        let z : n - i ≡ suc (n - suc i) = omega arith in
-        ap (λ (m : ℕ). unwritten_in (take m (drop i map))) z ∙ (ap (λ (ys : List ℕ). unwritten_in (take (suc (n - suc i)) ys)) (drop-cons map i 0 (omega arith)) ∙ rw e)
-
-    pub count-more : Counting map n (count + x) (i + 1)
-    count-more = record { inside = omega arith; low = omega (arith, w.low, e, one_at_most (eqb (get_or map i 0) 0)); rest = rw add-one (omega (arith, w.rest, next)) }
-
-pub ruleset counting = (rules, count-start, count-end, count_fits, count-more)
+pub counts_zeros : (xs : List ℕ) → count_by (λ x. eqb x 0) xs ≡ unwritten_in xs
+unfolding unwritten_in
+counts_zeros xs = sym (is_count_by unwritten_in (λ x. eqb x 0) refl (λ x ys. one_more (eqb x 0) (unwritten_in ys)) xs)
 
 -- `cover_rows`
 module _ {areas : List ℕ} {n : ℕ} (positions : ℕ) {pairs content fragments : List ℕ} {many : ℕ} {big : Bool} {width : ℕ} (old : List ℕ) {blank new : List ℕ} (l : positions ≤ length old)

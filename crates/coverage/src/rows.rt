@@ -1,6 +1,5 @@
 // All pairs one after the other, and the positions that are left.
-ghost use Rattle.std.specs.Prelude.{◌≡◌, ◌≤◌, eqb, length, take};
-ghost use Rattle.format.specs.Lists.{pick};
+ghost use Rattle.std.specs.Prelude.{◌≡◌, ◌≤◌, length, take};
 ghost use Rattle.covered.specs.Covered.{unwritten_in};
 ghost use Rattle.coverage.specs.Rows.{RowsMark, RowsCover};
 
@@ -23,8 +22,7 @@ fn mark_rows(
     requires { (many ≤ 4096) × (n ≤ 64) }
     ensures { RowsMark areas.now n pairs.now content.now fragments.now many big width map.old map.new }
 {
-    let mut k = 0;
-    while k < many {
+    for k in 0..many {
         mark_row(
             areas,
             n,
@@ -36,15 +34,7 @@ fn mark_rows(
             width,
             map,
         );
-        k += 1;
     }
-}
-
-// 1 for a position that is not marked.
-fn one_if_zero(x: u8) -> usize
-    ensures { result ≡ pick (eqb x 0) 1 0 }
-{
-    if x == 0 { 1 } else { 0 }
 }
 
 // How many of the first n positions of a map are 0.
@@ -52,13 +42,7 @@ fn unwritten(map: &[u8], n: usize) -> usize
     requires { n ≤ length map.now }
     ensures { result ≡ unwritten_in (take n map.now) }
 {
-    let mut count: usize = 0;
-    let mut i: usize = 0;
-    while i < n {
-        count += one_if_zero(map[i]);
-        i += 1;
-    }
-    count
+    map[..n].iter().filter(|x| **x == 0).count()
 }
 
 // A map of so many positions, and how many of them no pair writes.

@@ -10,7 +10,6 @@ use crate::Covered;
 use crate::rows::cover_rows;
 use header::{Form, Head, Width};
 use kept_sizes::sizes_of;
-use pairs_answer::PairsAnswer;
 use records::read_pairs;
 use rooms::{AREA_ROOM, IMAGE_ROOM, SYMBOL_ROOM};
 use tables::{Listed, group_one};
@@ -136,18 +135,11 @@ fn by_records(
     ensures { CoverMeets text.now map.old (told result) map.new }
 {
     match read_pairs(text, pairs, content, fragments) {
-        PairsAnswer::Refusal { number, place } => Covered::Refused {
-            number: number,
-            place: place,
+        Err(refusal) => Covered::Refused {
+            number: refusal.number,
+            place: refusal.place,
         },
-        PairsAnswer::Accepted { counts } => by_rows(
-            text,
-            pairs,
-            content,
-            fragments,
-            counts.pairs,
-            map,
-        ),
+        Ok(counts) => by_rows(text, pairs, content, fragments, counts.pairs, map),
     }
 }
 

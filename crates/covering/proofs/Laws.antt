@@ -49,49 +49,17 @@ pub touched-is : (m : ℕ) {c : Class} → c ≡ class_of m → {n : ℕ} → n 
 unfolding touched bit
 touched-is m ec en = rw ec at en
 
-module _ (a m en e : ℕ) {f : ℕ} (p : f ≡ en) where
-  pub cover-low : f < a → false ≡ covered a m en e
-  unfolding covered
-  cover-low h = rw (lt-leb a en (omega arith))
-
-  module _ (h : a ≤ f) where
-    pub cover-early : e < f → false ≡ covered a m en e
-    unfolding covered
-    cover-early k = rw (le-leb a en (omega arith), lt-leb en e (omega arith))
-
-    pub cover-in : f ≤ e → {t : ℕ} → t ≡ touched m → ltb e (f + t) ≡ covered a m en e
-    unfolding covered
-    cover-in k q = rw (le-leb a en (omega arith), le-leb en e (omega arith), ← q, ← p)
-
 pub cover-fits : (m en : ℕ) {f t : ℕ} → f ≡ en → en < 4294967296 → t ≡ touched m → Fits w64 (f + t)
 cover-fits m en p h q = record { fits = omega (arith, touched-few m) }
 
-pub ruleset covers = (rules, touched-is, cover-low, cover-early, cover-in, cover-fits)
+pub ruleset covers = (rules, touched-is, cover-fits)
 
--- ------------------------------------------------------------------ `kept_with`, `in_content`
-
-module _ (a m en e : ℕ) (before : Bool) {r : Bool} (q : r ≡ covered a m en e) where
-  pub kept-other : r ≡ false → before ≡ kept_with a m en e before
-  unfolding kept_with
-  kept-other h = rw (← q, h)
-
-  pub kept_here : r ≡ true → {f s t : ℕ} → f ≡ en → s ≡ on_site m → t ≡ s → ltb e (f + t) ≡ kept_with a m en e before
-  unfolding kept_with
-  kept_here h p g k = rw (← q, h, k, g, p)
+-- ------------------------------------------------------------------ `kept_with`
 
 pub kept-fits : (m en : ℕ) {f s t : ℕ} → f ≡ en → en < 4294967296 → s ≡ on_site m → t ≡ s → Fits w64 (f + t)
 kept-fits m en p h q k = record { fits = omega (arith, kept-few m) }
 
-module _ (a n e : ℕ) where
-  pub content-below : e < a → false ≡ in_content a n e
-  unfolding in_content
-  content-below h = rw (lt-leb a e h)
-
-  pub content-above : a ≤ e → ltb e n ≡ in_content a n e
-  unfolding in_content
-  content-above h = rw (le-leb a e h)
-
-pub ruleset keeps = (rules, kept-other, kept_here, kept-fits, content-below, content-above)
+pub ruleset keeps = (rules, kept-fits)
 
 -- ------------------------------------------------------------------ `is_kept`
 
@@ -151,24 +119,5 @@ module _ {a : ℕ} {ms es : List ℕ} {n m behind e left : ℕ} (w : Seeking a m
         go true true f g = absurd (false≢true (sym f))
         go true false f g = g
         go false z f g = g
-
--- `is_here`, `left_after`
-module _ {k : Bool} (left : ℕ) where
-  pub here_on : k ≡ true → eqb left 0 ≡ (k && eqb left 0)
-  here_on e = rw e
-
-  pub here-off : k ≡ false → false ≡ (k && eqb left 0)
-  here-off e = rw e
-
-  pub after_none : k ≡ true → left ≡ 0 → 0 ≡ pick k (left - 1) left
-  after_none e z = rw (e, z)
-
-  pub after-some : k ≡ true → left - 1 ≡ pick k (left - 1) left
-  after-some e = rw e
-
-  pub after-off : k ≡ false → left ≡ pick k (left - 1) left
-  after-off e = rw e
-
-pub ruleset stepping = (rules, here_on, here-off, after_none, after-some, after-off)
 
 pub ruleset seeking = (rules, seeking-start, seeking-end, seeking-here, seeking-on)

@@ -20,37 +20,32 @@ fn touched_by(mode: u32) -> usize
 }
 
 // Whether a fragment covers the entry e: its own entry is at least the address length, and e is one of those that it touches.
+#[tactic(auto, unfolding(crate::specs::Covering::covered))]
 pub fn covers(mode: u32, entry: u32, width: usize, e: usize) -> bool
     ensures { result ≡ covered width mode entry e }
 {
     let first = wide(entry);
-    if first < width {
-        return false;
-    }
-    if e < first {
-        return false;
-    }
-    e < first + touched_by(mode)
+    width <= first && first <= e && e < first + touched_by(mode)
 }
 
 // Whether the entry e is kept behind a fragment, where it was kept or not before.
+#[tactic(auto, unfolding(crate::specs::Covering::kept_with))]
 fn kept_with(mode: u32, entry: u32, width: usize, e: usize, before: bool) -> bool
     ensures { result ≡ kept_with width mode entry e before }
 {
     if covers(mode, entry, width, e) {
-        return e < wide(entry) + wide(size_on_site(mode));
+        e < wide(entry) + wide(size_on_site(mode))
+    } else {
+        before
     }
-    before
 }
 
 // Whether the entry e is content.
+#[tactic(auto, unfolding(crate::specs::Covering::in_content))]
 fn in_content(width: usize, entries: usize, e: usize) -> bool
     ensures { result ≡ in_content width entries e }
 {
-    if e < width {
-        return false;
-    }
-    e < entries
+    width <= e && e < entries
 }
 
 // Whether the entry e is kept once n fragments were worked in.
@@ -58,10 +53,8 @@ pub fn is_kept(ms: &[u32], es: &[u32], n: usize, width: usize, entries: usize, e
     ensures { result ≡ kept_from width ms.now es.now e 0 n (in_content width entries e) }
 {
     let mut k = in_content(width, entries, e);
-    let mut i: usize = 0;
-    while i < n {
+    for i in 0..n {
         k = kept_with(at(ms, i), at(es, i), width, e, k);
-        i += 1;
     }
     k
 }
@@ -70,23 +63,14 @@ pub fn is_kept(ms: &[u32], es: &[u32], n: usize, width: usize, entries: usize, e
 fn is_here(kept: bool, left: u32) -> bool
     ensures { result ≡ (kept && eqb left 0) }
 {
-    if kept {
-        return left == 0;
-    }
-    false
+    kept && left == 0
 }
 
 // How many kept ones are left behind an entry.
 fn left_after(kept: bool, left: u32) -> u32
     ensures { result ≡ pick kept (left - 1) left }
 {
-    if kept {
-        if left == 0 {
-            return 0;
-        }
-        return left - 1;
-    }
-    left
+    if kept { left.saturating_sub(1) } else { left }
 }
 
 // The entry that the position behind so many others is written from, the first being written from the first kept entry; or how many entries there are.
@@ -101,14 +85,12 @@ pub fn entry_of(
     ensures { result ≡ entry_of width ms.now es.now n entries 0 entries behind }
 {
     let mut left = behind;
-    let mut e: usize = 0;
-    while e < entries {
+    for e in 0..entries {
         let kept = is_kept(ms, es, n, width, entries, e);
         if is_here(kept, left) {
             return e;
         }
         left = left_after(kept, left);
-        e += 1;
     }
     entries
 }

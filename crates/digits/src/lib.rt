@@ -32,7 +32,7 @@ pub fn worth_of(b: u8) -> u64
 }
 
 // What a byte is worth as a capital digit of radix 16, or a number above 15 where it is none.
-fn hex_of(b: u8) -> u64
+pub fn hex_of(b: u8) -> u64
     ensures { Hex b result }
 {
     let x = b as u64;

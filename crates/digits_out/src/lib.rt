@@ -30,10 +30,8 @@ pub fn put_word(out: &mut [u8], at: usize, w: &[u8]) -> usize
     ensures { Wrote w.now out.old at result out.new }
 {
     let mut p = at;
-    let mut i = 0;
-    while i < w.len() {
-        p = put(out, p, w[i]);
-        i += 1;
+    for b in w {
+        p = put(out, p, *b);
     }
     p
 }

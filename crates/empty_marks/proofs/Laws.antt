@@ -32,13 +32,9 @@ module _ (s : List ℕ) (p : ℕ) where
       ends-first e = rw (le-leb (p + 25) (length s) (omega arith), ne_eqb (get_or s (p + 10) 0) 10 e)
 
       module _ (e : get_or s (p + 10) 0 ≡ 10) where
-        pub ends-second : (get_or s (p + 24) 0 ≡ 10 → ⊥) → false ≡ ends_in_place s p
+        pub ends-last : eqb (get_or s (p + 24) 0) 10 ≡ ends_in_place s p
         unfolding ends_in_place
-        ends-second f = rw (le-leb (p + 25) (length s) (omega arith), eq-eqb (get_or s (p + 10) 0) 10 e, ne_eqb (get_or s (p + 24) 0) 10 f)
-
-        pub ends-both : get_or s (p + 24) 0 ≡ 10 → true ≡ ends_in_place s p
-        unfolding ends_in_place
-        ends-both f = rw (le-leb (p + 25) (length s) (omega arith), eq-eqb (get_or s (p + 10) 0) 10 e, eq-eqb (get_or s (p + 24) 0) 10 f)
+        ends-last = rw (le-leb (p + 25) (length s) (omega arith), eq-eqb (get_or s (p + 10) 0) 10 e)
 
   pub ends-parts : {r : Bool} → r ≡ ends_in_place s p → r ≡ true → (p + 25 ≤ length s) × (get_or s (p + 10) 0 ≡ 10) × (get_or s (p + 24) 0 ≡ 10)
   unfolding ends_in_place
@@ -51,7 +47,7 @@ module _ (s : List ℕ) (p : ℕ) where
       go true false z a b c w = absurd (let n : ◌≡◌ {A = ℕ} 0 1 = cc in omega arith)
       go false y z a b c w = absurd (let n : ◌≡◌ {A = ℕ} 0 1 = cc in omega arith)
 
-pub ruleset ending = (rules, ends-past, ends-short, ends-first, ends-second, ends-both)
+pub ruleset ending = (rules, ends-past, ends-short, ends-first, ends-last)
 
 -- `zero_lead`
 pub zero-led : {s t u v w x y z : ℕ} {a b c d e f g h : Bool} → Due s 82 true a → Due t 32 a b → Due u 48 b c → Due v 48 c d

@@ -19,10 +19,7 @@ pub fn ends_in_place(t: &[u8], p: usize) -> bool
     if t[p + 10] != 10 {
         return false;
     }
-    if t[p + 24] != 10 {
-        return false;
-    }
-    true
+    t[p + 24] == 10
 }
 
 // Whether eight bytes are R, the index 0 and one space, as `R 00 00 ` has them. No branch stands between the eight, so that they are compared at once.

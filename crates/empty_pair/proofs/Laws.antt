@@ -1,7 +1,7 @@
 -- What the definition reads of two lines that hold an address and an area, and no more.
 -- Assumes nothing.
-use Prim.Native.Nat.{ℕ, zero, suc, ◌+◌, ◌*◌, ◌-◌, ◌<◌, ◌≤◌, ◌^◌, ◌%◌}
-use mathlib.Core.Path.{◌≡◌, refl, sym, ap, ◌∙◌}
+use Prim.Native.Nat.{ℕ, zero, suc, ◌+◌, ◌-◌, ◌<◌, ◌≤◌, ◌^◌}
+use mathlib.Core.Path.{◌≡◌, refl, sym, ◌∙◌}
 use mathlib.Core.Bool.{Bool, true, false, not, ◌&&◌}
 use mathlib.Core.List.{List, []}
 use native.Mathlib.Omega.{arith}
@@ -12,17 +12,17 @@ use mir.Val.{Fits}
 use mir.Syntax.{w64}
 use borrow.Author.Rules.{rules}
 use borrow.Author.Tests.{eq-eqb, lt-ltb, not-false}
+use Rattle.std.specs.Prelude.{Option, Some, None}
 use Rattle.format.specs.Bytes.{is_blank, worth}
-use Rattle.format.specs.Got.{Got, Reader, Listed, is, isnt, many}
+use Rattle.format.specs.Got.{Reader, is, isnt, many}
 use Rattle.format.specs.Header.{Form}
-use Rattle.format.specs.Number.{joined}
 use Rattle.format.specs.Pairs.{address_part, area_part, content_line, whole_content, relocation_line}
 use Rattle.text_lines.specs.Lines.{LineIs, OneLine}
 use Rattle.scan.proofs.Laws.Kinds.{past_end, span-start, span-end}
 use Rattle.text_lines.proofs.Laws.{line-start, line-more, lf_line}
 use Rattle.scan.proofs.Laws.Tests.{by_order}
 use Rattle.digits.specs.Capitals.{capitals}
-use Rattle.digits.proofs.Laws.{Capitals, capitals-are}
+use Rattle.digits.proofs.Laws.{capitals-are}
 use Rattle.byte_joins.specs.Joins.{two_joined, three_joined}
 use Rattle.byte_joins.proofs.Laws.{two-parts, two-under, three-parts}
 use Rattle.empty_marks.specs.Marks.{ends_in_place, zero_lead}
@@ -40,9 +40,8 @@ use Rattle.lists.proofs.Laws.Begun.{next_past}
 use Rattle.fragments.proofs.Laws.Fragments.{fragment-past}
 use Rattle.pair_line.proofs.Laws.Usual.{led-letter, zeroed-is}
 use Rattle.pair_line.proofs.Laws.Content.{address-usual}
-use Rattle.empty_pair.specs.Empty.{three, Plain, LeadsAddress, AddressOnly, LeadsArea, AreaOnly, EmptyAt, EmptyPair}
+use Rattle.empty_pair.specs.Empty.{three, Plain, LeadsAddress, AddressOnly, LeadsArea, AreaOnly, EmptyPair}
 use Rattle.empty_pair.specs.declared.Empty.{Empty}
-use Rattle.empty_pair.specs.declared.Empty.TheVariants.{Is, Other}
 
 -- ------------------------------------------------------------------ bytes that are no control characters
 
@@ -223,11 +222,11 @@ module _ (s : List ℕ) (p n : ℕ) (h : p + n < length s) (w : Plain (take n (d
 part-long : (s : List ℕ) (p n : ℕ) → p + n ≤ length s → length (take n (drop p s)) ≡ n
 part-long s p n h = length-take-le n (drop p s) (omega (arith, length-drop p s))
 
-pub empty-other : (f : Form) (s : List ℕ) (p : ℕ) → EmptyPair f s p Other
+pub empty-other : (f : Form) (s : List ℕ) (p : ℕ) → EmptyPair f s p None
 empty-other f s p = record { says = tt }
 
 empty-here : (big : Bool) (s : List ℕ) (p : ℕ) → p + 25 ≤ length s → get_or s (p + 10) 0 ≡ 10 → get_or s (p + 24) 0 ≡ 10
-    → {a : ℕ} → AddressOnly big (take (p + 10 - p) (drop p s)) a → a ≤ 16777215 → {i : ℕ} → AreaOnly big (take (p + 24 - (p + 11)) (drop (p + 11) s)) i → i ≤ 65535 → EmptyPair (three big) s p (Is a i)
+    → {a : ℕ} → AddressOnly big (take (p + 10 - p) (drop p s)) a → a ≤ 16777215 → {i : ℕ} → AreaOnly big (take (p + 24 - (p + 11)) (drop (p + 11) s)) i → i ≤ 65535 → EmptyPair (three big) s p (Some (record { address = a; area = i }))
 empty-here big s p h e f {a} v lv {i} w lw =
     let x : p + 10 - p ≡ 10 = omega arith in
     let y : p + 24 - (p + 11) ≡ 13 = omega arith in
@@ -252,7 +251,7 @@ module _ (s : List ℕ) (p : ℕ) {r : Bool} (e : r ≡ ends_in_place s p) (o : 
   here = (ends-parts s p e (not-false r o)).0
 
   pub empty-is : (big : Bool) {a : ℕ} → AddressOnly big (take (p + 10 - p) (drop p s)) a → a ≤ 16777215
-      → {i : ℕ} → AreaOnly big (take (p + 24 - (p + 11)) (drop (p + 11) s)) i → i ≤ 65535 → EmptyPair (three big) s p (Is a i)
+      → {i : ℕ} → AreaOnly big (take (p + 24 - (p + 11)) (drop (p + 11) s)) i → i ≤ 65535 → EmptyPair (three big) s p (Some (record { address = a; area = i }))
   empty-is big v lv w lw = let x = ends-parts s p e (not-false r o) in empty-here big s p x.0 x.1 x.2 v lv w lw
 
   pub first-long : length (take (p + 10 - p) (drop p s)) ≡ 10
@@ -277,7 +276,7 @@ module _ (s : List ℕ) (p : ℕ) {r : Bool} (e : r ≡ ends_in_place s p) (o : 
   second_fits h = record { fits = omega (arith, here) }
 
 -- `empty_pair`
-pub empty-form : {f : text.Form} (s : List ℕ) (p : ℕ) {r : Empty} → f.radix ≡ 16 → f.width ≡ Three → EmptyPair (three f.big) s p r → EmptyPair (form_of f) s p r
+pub empty-form : {f : text.Form} (s : List ℕ) (p : ℕ) {r : Option Empty} → f.radix ≡ 16 → f.width ≡ Three → EmptyPair (three f.big) s p r → EmptyPair (form_of f) s p r
 empty-form s p e g w = rw (e, g) w
 
 pub ruleset empties = (rules, empty-other, empty-is, first-long, second-long, first-in, second-in, first_fits, next_fits, second_fits, empty-form)

@@ -1,13 +1,12 @@
 -- What the fast way of an empty pair finds: two lines that end at LF, of which the definition reads an address, an area and nothing more.
 -- Assumes nothing.
-use Rattle.std.specs.Prelude.{ℕ, ◌+◌, ◌<◌, ◌≤◌, ◌≡◌, Bool, true, List, [], ltb, length, get_or, take, drop}
+use Rattle.std.specs.Prelude.{ℕ, ◌+◌, ◌<◌, ◌≤◌, ◌≡◌, Bool, true, List, [], ltb, length, get_or, take, drop, Option, Some, None}
 use Rattle.format.specs.Got.{is}
 use Rattle.format.specs.Header.{Form}
 use Rattle.format.specs.Pairs.{address_part, area_part, whole_content, relocation_line}
 use Rattle.text_lines.specs.Lines.{LineIs}
 use Rattle.pair_line.specs.Usual.{Zeroed}
 use Rattle.empty_pair.specs.declared.Empty.{Empty}
-use Rattle.empty_pair.specs.declared.Empty.TheVariants.{Is, Other}
 
 -- a form whose radix is 16 and whose addresses have three bytes
 abbrev pub three : Bool → Form
@@ -47,9 +46,9 @@ pub record EmptyAt (f : Form) (s : List ℕ) (p address area : ℕ) : Type 0 whe
   pub content : whole_content f (take 10 (drop p s)) ≡ is (record { address = address; bytes = [] }) 10
   pub relocation : relocation_line f (take 13 (drop (p + 11) s)) 0 ≡ is (record { area = area; fragments = [] }) 13
 
-abbrev pub EmptySays : Form → List ℕ → ℕ → Empty → Type 0
-EmptySays f s p (Is a r) = EmptyAt f s p a r
-EmptySays f s p Other = Unit {0}
+abbrev pub EmptySays : Form → List ℕ → ℕ → Option Empty → Type 0
+EmptySays f s p (Some e) = EmptyAt f s p e.address e.area
+EmptySays f s p None = Unit {0}
 
-pub record EmptyPair (f : Form) (s : List ℕ) (p : ℕ) (r : Empty) : Type 0 where
+pub record EmptyPair (f : Form) (s : List ℕ) (p : ℕ) (r : Option Empty) : Type 0 where
   pub says : EmptySays f s p r

@@ -12,11 +12,11 @@ use empty_marks::{ends_in_place, zero_lead};
 use fields::same_so_far;
 use header::{Form, Width};
 
-// The address and the area of an empty pair; or another form, or none.
+// The address and the area of an empty pair.
 #[derive(Clone, Copy)]
-pub enum Empty {
-    Is { address: u32, area: u32 },
-    Other,
+pub struct Empty {
+    pub address: u32,
+    pub area: u32,
 }
 
 // Whether a line of ten bytes has a T and three spaces where `T xx xx xx` has them.
@@ -61,37 +61,36 @@ fn area_only(t: &[u8], big: bool) -> u64
 }
 
 // The same of two lines at a place, of a form whose radix is 16 and whose addresses have three bytes.
-fn two_lines(t: &[u8], p: usize, big: bool) -> Empty
+fn two_lines(t: &[u8], p: usize, big: bool) -> Option<Empty>
     ensures { EmptyPair (three big) t.now p result }
 {
     if !ends_in_place(t, p) {
-        return Empty::Other;
+        return None;
     }
     let a = address_only(&t[p..p + 10], big);
     if 16777215 < a {
-        return Empty::Other;
+        return None;
     }
     let i = area_only(&t[p + 11..p + 24], big);
     if 65535 < i {
-        return Empty::Other;
+        return None;
     }
-    Empty::Is {
+    Some(Empty {
         address: a as u32,
         area: i as u32,
-    }
+    })
 }
 
 // An empty pair in the usual form at a place.
-pub fn empty_pair(t: &[u8], p: usize, form: Form) -> Empty
+pub fn empty_pair(t: &[u8], p: usize, form: Form) -> Option<Empty>
     ensures { EmptyPair (form_of form) t.now p result }
 {
     if form.radix != 16 {
-        return Empty::Other;
+        return None;
     }
     let width = form.width;
     match width {
-        Width::Two => Empty::Other,
         Width::Three => two_lines(t, p, form.big),
-        Width::Four => Empty::Other,
+        Width::Two | Width::Four => None,
     }
 }

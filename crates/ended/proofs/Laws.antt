@@ -21,9 +21,10 @@ use Rattle.halt.specs.Halt.{halt_of}
 use Rattle.counts.specs.Counts.{compared, told_counts, told_from}
 use Rattle.counts.proofs.Counts.{the-walk-gives-the-answer}
 use Rattle.h_line.specs.Told.{two_of}
+use Rattle.std.specs.Prelude.{Ok, Err}
 use Rattle.answer.specs.Answer as reads
-use Rattle.answer.specs.declared.Answer as reading-answer
-use Rattle.answer.specs.declared.Answer.TheVariants as read
+use Rattle.answer.specs.declared.Accepted as told
+use Rattle.answer.specs.declared.Refusal as refusals
 use Rattle.answer.specs.declared.Counts.{Counts}
 use Rattle.answer.specs.declared.Verdict as reading
 use Rattle.ended_answer.specs.Answer.{halt_in, if_accepted}
@@ -73,25 +74,25 @@ module _ {text : List ℕ} {c : Counts} {v : reading.Verdict} (w : Read text c v
 pub ruleset besides = (rules, header-there, head-fits, told-beside)
 
 -- `beside`
-module _ {text : List ℕ} {a : reading-answer.Answer} where
-  pub accepted-read : WasRead text a → {c : Counts} {v : reading.Verdict} → a ≡ read.Accepted c v → Read text c v
+module _ {text : List ℕ} {a : reads.Answer} where
+  pub accepted-read : WasRead text a → {x : told.Accepted} → a ≡ Ok x → Read text x.counts x.verdict
   accepted-read w g = rw g at w
 
-  pub refused-beside : {n p : ℕ} → a ≡ read.Refusal n p → Beside text (reads.told a) (Refusal n p)
+  pub refused-beside : {z : refusals.Refusal} → a ≡ Err z → Beside text (reads.told a) (Refusal z.number z.place)
   refused-beside g = rw g (record { same = refl; halts = refl; counts = refl })
 
-  pub accepted-beside : {c : Counts} {v : reading.Verdict} → a ≡ read.Accepted c v → {r : Answer} → Beside text (accepted_with c v) r → Beside text (reads.told a) r
+  pub accepted-beside : {x : told.Accepted} → a ≡ Ok x → {r : Answer} → Beside text (accepted_with x.counts x.verdict) r → Beside text (reads.told a) r
   accepted-beside g b = rw g b
 
 pub ruleset telling = (rules, accepted-read, refused-beside, accepted-beside)
 
 -- `read_ended`
-pub was_read : {text : List ℕ} {old new : Held} (a : reading-answer.Answer) → Meets true text old (reads.told a) new → WasRead text a
+pub was_read : {text : List ℕ} {old new : Held} (a : reads.Answer) → Meets true text old (reads.told a) new → WasRead text a
 was_read {text} a m = go a refl
   where
-    go : (x : reading-answer.Answer) → a ≡ x → WasRead text x
-    go (read.Refusal n p) g = tt
-    go (read.Accepted c v) g = accepted-was-read m g
+    go : (x : reads.Answer) → a ≡ x → WasRead text x
+    go (Err z) g = tt
+    go (Ok x) g = accepted-was-read m g
 
 pub answers : {text : List ℕ} {old new : Held} {a : paper.Answer} → Meets true text old a new → {r : Answer} → Beside text a r → Answers text old r new
 answers {text} m b = record {

@@ -10,8 +10,8 @@ use Rattle.format.specs.Reading as paper
 use Rattle.format.specs.Held.{Held, Meets, lengths}
 use Rattle.laws.proofs.WasRead.{what-was-read}
 use Rattle.answer.specs.Answer as reads
-use Rattle.answer.specs.declared.Answer.{Answer}
-use Rattle.answer.specs.declared.Answer.TheVariants.{Accepted}
+use Rattle.std.specs.Prelude.{Ok}
+use Rattle.answer.specs.declared.Accepted.{Accepted}
 use Rattle.answer.specs.declared.Counts.{Counts}
 use Rattle.answer.specs.declared.Verdict as reading
 use Rattle.ended.specs.Answer.{Read}
@@ -34,7 +34,7 @@ module _ (text : List ℕ) (old : Held) (c : Counts) (v : reading.Verdict) where
         verdict = cc;
       }
 
-pub accepted-was-read : {text : List ℕ} {old new : Held} {a : Answer} → Meets true text old (reads.told a) new → {c : Counts} {v : reading.Verdict} → a ≡ Accepted c v → Read text c v
+pub accepted-was-read : {text : List ℕ} {old new : Held} {a : reads.Answer} → Meets true text old (reads.told a) new → {x : Accepted} → a ≡ Ok x → Read text x.counts x.verdict
 unfolding paper.reading
-accepted-was-read {text} {old} {new} {a} m {c} {v} g =
-    was_read text old c v (paper.read true (lengths old) text) refl (ap reads.told (sym g) ∙ m.says)
+accepted-was-read {text} {old} {new} {a} m {x} g =
+    was_read text old x.counts x.verdict (paper.read true (lengths old) text) refl (ap reads.told (sym g) ∙ m.says)

@@ -1,6 +1,6 @@
 -- The contract of the ended reading: document 01's answer, and beside it the halt of a reading that stopped and the H line's word.
 -- Assumes nothing.
-use Rattle.std.specs.Prelude.{ℕ, ◌≡◌, true, List, length}
+use Rattle.std.specs.Prelude.{ℕ, ◌≡◌, true, List, Ok, Err, length}
 use Rattle.std.proofs.Math.Option.{some}
 use Rattle.format.specs.Outcome.{fine}
 use Rattle.format.specs.Records as the
@@ -10,8 +10,6 @@ use Rattle.format.specs.Held.{Held, Meets}
 use Rattle.halt.specs.Halt.{halt_of}
 use Rattle.counts.specs.Counts as the-counts
 use Rattle.answer.specs.Answer as reads
-use Rattle.answer.specs.declared.Answer as reading-answer
-use Rattle.answer.specs.declared.Answer.TheVariants as read
 use Rattle.answer.specs.declared.Counts.{Counts}
 use Rattle.answer.specs.declared.Verdict as reading
 use Rattle.ended_answer.specs.Answer.{if_accepted, told, told_halt, told_word}
@@ -34,9 +32,9 @@ pub record Read (text : List ℕ) (c : Counts) (v : reading.Verdict) : Type 0 wh
   pub verdict : reads.told_verdict v ≡ the.verdict text records
 
 -- a refusal, or an accepted text
-abbrev pub WasRead : List ℕ → reading-answer.Answer → Type 0
-WasRead text (read.Refusal n p) = Unit {0}
-WasRead text (read.Accepted c v) = Read text c v
+abbrev pub WasRead : List ℕ → reads.Answer → Type 0
+WasRead text (Err r) = Unit {0}
+WasRead text (Ok a) = Read text a.counts a.verdict
 
 -- what is told beside document 01's answer
 pub record Beside (text : List ℕ) (a : paper.Answer) (r : Answer) : Type 0 where

@@ -31,11 +31,11 @@ fn beside(t: &[u8], answer: answer::Answer) -> Answer
     ensures { Beside t.now (told answer) result }
 {
     match answer {
-        answer::Answer::Refusal { number, place } => Answer::Refusal {
-            number: number,
-            place: place,
+        Err(refusal) => Answer::Refusal {
+            number: refusal.number,
+            place: refusal.place,
         },
-        answer::Answer::Accepted { counts, verdict } => accepted(t, counts, verdict),
+        Ok(told) => accepted(t, told.counts, told.verdict),
     }
 }
 

@@ -4,11 +4,12 @@ use Prim.Native.Nat.{suc, ℕ, ◌*◌, ◌+◌, ◌-◌, ◌<◌, ◌^◌, ◌�
 use mathlib.Core.Path.{◌≡◌, ap, refl, subst, sym, ◌∙◌}
 use mathlib.Core.Bool.{Bool, false, true}
 use mathlib.Core.List.{List, [], ◌++◌, ◌∷◌}
-use mathlib.Core.Option.{none, some}
+use Rattle.std.specs.Prelude.{Option, None, Some}
 use native.Mathlib.Omega.{arith}
 use lib.ListN.{get_or, length}
 use lib.Dec.{eqb}
 use borrow.Author.Rules.{rules}
+use borrow.Author.Tests.{ne_eqb}
 use Rattle.format.specs.Lists.{flat, pick}
 use Rattle.laws.specs.Rows.{area_at, from, given_by, symbol_at}
 use Rattle.laws.proofs.Room.{flat_append}
@@ -20,20 +21,22 @@ use Rattle.row_texts.specs.RowRecords.{area_entry, column, entries_from, symbol_
 use Rattle.entries_out.specs.EntriesOut.{entries_out, entry_line}
 use Rattle.entries_out.proofs.Going.{Going, go-as, go-end, go-last, go-more, go-start}
 
--- `put_area_row`
-given-same : (v x : ℕ) → given_addr (eqb v 1) x ≡ given_by v x
-given-same v x = go (eqb v 1)
-  where
-    go : (t : Bool) → given_addr t x ≡ pick t (some x) none
-    go true = refl
-    go false = refl
+-- `area_addr`
+module _ {g v : ℕ} (n : ℕ) (e : v ≡ g) where
+  pub addr-is : {x : ℕ} → v ≡ 1 → x ≡ n → given_addr (Some x) ≡ given_by g n
+  addr-is h f = rw (← e, h, f)
 
-pub area-row : (t s : List ℕ) (i : ℕ) {z g v x : ℕ} {w out out₁ : List ℕ} {at r : ℕ} → z ≡ get_or s (7 * i + 2) 0 → g ≡ get_or s (7 * i + 3) 0 → v ≡ get_or s (7 * i + 4) 0 → x ≡ get_or s (7 * i + 5) 0
-    → w ≡ name_in t (area_at s i).name → Wrote (area_out w z g (given_addr (eqb v 1) x)) out at r out₁ → Wrote (entry_line (area_entry t s i)) out at r out₁
+  pub addr-none : (v ≡ 1 → ⊥) → given_addr None ≡ given_by g n
+  addr-none h = rw (← e, ne_eqb v 1 h)
+
+pub ruleset addr = (rules, addr-is, addr-none)
+
+-- `put_area_row`
+pub area-row : (t s : List ℕ) (i : ℕ) {z g : ℕ} (x : Option ℕ) {w out out₁ : List ℕ} {at r : ℕ} → z ≡ get_or s (7 * i + 2) 0 → g ≡ get_or s (7 * i + 3) 0 → given_addr x ≡ given_by (get_or s (7 * i + 4) 0) (get_or s (7 * i + 5) 0)
+    → w ≡ name_in t (area_at s i).name → Wrote (area_out w z g (given_addr x)) out at r out₁ → Wrote (entry_line (area_entry t s i)) out at r out₁
 unfolding area_entry area_at
-area-row t s i {z} {g} {v} {x} {w} {out} {out₁} {at} {r} a b c d e y =
-    let k : area_out w z g (given_addr (eqb v 1) x) ≡ area_out (name_in t (area_at s i).name) (get_or s (7 * i + 2) 0) (get_or s (7 * i + 3) 0) (given_by (get_or s (7 * i + 4) 0) (get_or s (7 * i + 5) 0)) =
-    ap (area_out w z g) (given-same v x) ∙ rw (a, b, c, d, e) in
+area-row t s i {z} {g} x {w} {out} {out₁} {at} {r} a b c e y =
+    let k : area_out w z g (given_addr x) ≡ area_out (name_in t (area_at s i).name) (get_or s (7 * i + 2) 0) (get_or s (7 * i + 3) 0) (given_by (get_or s (7 * i + 4) 0) (get_or s (7 * i + 5) 0)) = rw (a, b, c, e) in
     subst (λ (l : List ℕ). Wrote l out at r out₁) k y
 
 pub ruleset area = (rules, area-row)

@@ -1,6 +1,7 @@
 // The lines of areas and symbols.
-ghost use Rattle.std.specs.Prelude.{◌-◌};
-ghost use Rattle.laws.specs.Rows.{from};
+ghost use Rattle.std.specs.Prelude.{◌≡◌, ◌+◌, ◌-◌, ◌*◌, get_or};
+ghost use Rattle.laws.specs.Rows.{from, given_by};
+ghost use Rattle.entry_out.specs.EntryOut.{given_addr};
 ghost use Rattle.digits_out.specs.Wrote.{Wrote};
 ghost use Rattle.row_texts.specs.RowRecords.{area_entry, entries_from, symbol_entry};
 ghost use Rattle.entries_out.specs.EntriesOut.{entries_out, entry_line};
@@ -11,6 +12,16 @@ use entry_out::{AreaNumbers, put_area, put_symbol};
 use row_parts::{area_cell, symbol_cell};
 use symbol_rows::symbol_name;
 
+// The addr of area i, if it is given.
+fn area_addr(areas: &[u32], i: usize) -> Option<u32>
+    ensures { given_addr result ≡ given_by (get_or areas.now (7 * i + 4) 0) (get_or areas.now (7 * i + 5) 0) }
+{
+    if area_cell(areas, i, 4) == 1 {
+        return Some(area_cell(areas, i, 5));
+    }
+    None
+}
+
 // The line of area i.
 fn put_area_row(out: &mut [u8], at: usize, text: &[u8], areas: &[u32], i: usize) -> usize
     ensures { Wrote (entry_line (area_entry text.now areas.now i)) out.old at result out.new }
@@ -18,8 +29,7 @@ fn put_area_row(out: &mut [u8], at: usize, text: &[u8], areas: &[u32], i: usize)
     let n = AreaNumbers {
         size: area_cell(areas, i, 2),
         flags: area_cell(areas, i, 3),
-        given: area_cell(areas, i, 4) == 1,
-        addr: area_cell(areas, i, 5),
+        addr: area_addr(areas, i),
     };
     put_area(out, at, area_name(text, areas, i), n)
 }
@@ -36,10 +46,8 @@ fn put_areas(
     ensures { Wrote (entries_out (from (area_entry text.now areas.now) start (end - start))) out.old at result out.new }
 {
     let mut p = at;
-    let mut i = start;
-    while i < end {
+    for i in start..end {
         p = put_area_row(out, p, text, areas, i);
-        i += 1;
     }
     p
 }
@@ -67,13 +75,11 @@ pub fn put_entries(
 {
     let mut p = at;
     let mut k = 0;
-    let mut j = 0;
-    while j < m {
+    for j in 0..m {
         let c = wide(symbol_cell(symbols, j, 4));
         p = put_areas(out, p, text, areas, k, c);
         p = put_symbol_row(out, p, text, symbols, j);
         k = c;
-        j += 1;
     }
     put_areas(out, p, text, areas, k, n)
 }

@@ -3,20 +3,21 @@
 use Prim.Native.Nat.{ℕ}
 use mathlib.Core.Path.{◌≡◌, refl, ap}
 use native.Mathlib.Omega.{arith}
+use Rattle.std.specs.Prelude.{Option, Some, None, Result, Ok, Err}
 use Rattle.format.specs.Number as the
+use Rattle.numbers.specs.Told.{code as reason_code}
+use Rattle.numbers.specs.declared.Halt.{Halt}
+use Rattle.numbers.specs.declared.Read.{Read}
+use Rattle.fields.proofs.Unique.{one_halt}
 use Rattle.entry_line.specs.Told.{name_of, addr_of, entry_of, told_entry}
-use Rattle.entry_line.specs.declared.Addr.{Addr}
-use Rattle.entry_line.specs.declared.Addr.TheVariants.{Given, Absent}
 use Rattle.entry_line.specs.declared.Entry as code
 use Rattle.entry_line.specs.declared.Entry.TheVariants.{Area, Symbol, Ignored}
-use Rattle.entry_line.specs.declared.EntryLine.{EntryLine}
-use Rattle.entry_line.specs.declared.EntryLine.TheVariants.{Is, No}
 
-one_addr : (a b : Addr) → addr_of a ≡ addr_of b → a ≡ b
-one_addr (Given v) (Given w) e = let p : v ≡ w = cc in rw p
-one_addr (Given v) Absent e = absurd (let z : ◌≡◌ {A = ℕ} 0 1 = cc in omega arith)
-one_addr Absent (Given w) e = absurd (let z : ◌≡◌ {A = ℕ} 0 1 = cc in omega arith)
-one_addr Absent Absent e = refl
+one_addr : (a b : Option ℕ) → addr_of a ≡ addr_of b → a ≡ b
+one_addr (Some v) (Some w) e = let p : v ≡ w = cc in rw p
+one_addr (Some v) None e = absurd (let z : ◌≡◌ {A = ℕ} 0 1 = cc in omega arith)
+one_addr None (Some w) e = absurd (let z : ◌≡◌ {A = ℕ} 0 1 = cc in omega arith)
+one_addr None None e = refl
 
 one_entry : (a b : code.Entry) → entry_of a ≡ entry_of b → a ≡ b
 one_entry (Area a n z g x) (Area b m y f w) e = all (ap (λ (k : the.Name). k.at) names) (ap (λ (k : the.Name). k.length) names) (cc) (cc) (one_addr x w (cc))
@@ -42,14 +43,15 @@ one_entry Ignored (Symbol b m s w) e = absurd (let z : ◌≡◌ {A = ℕ} 0 1 =
 one_entry Ignored Ignored e = refl
 
 -- `parse_area`, `parse_symdefref`, `parse_entry`
-pub one-entry-line : (a b : EntryLine) → told_entry a ≡ told_entry b → a ≡ b
-one-entry-line (Is x u) (Is y v) e =
-    let p : x ≡ y = one_entry x y cc in
-    let q : u ≡ v = cc in
+pub one-entry-line : (a b : Result (Read code.Entry) Halt) → told_entry a ≡ told_entry b → a ≡ b
+one-entry-line (Ok x) (Ok y) e =
+    let p : x.value ≡ y.value = one_entry x.value y.value cc in
+    let q : x.next ≡ y.next = cc in
     rw (p, q)
-one-entry-line (Is x u) (No r p) e = absurd (let z : ◌≡◌ {A = ℕ} 0 1 = cc in omega arith)
-one-entry-line (No r p) (Is y v) e = absurd (let z : ◌≡◌ {A = ℕ} 0 1 = cc in omega arith)
-one-entry-line (No r p) (No s q) e =
-    let a : r ≡ s = cc in
-    let b : p ≡ q = cc in
-    rw (a, b)
+one-entry-line (Ok x) (Err h) e = absurd (let z : ◌≡◌ {A = ℕ} 0 1 = cc in omega arith)
+one-entry-line (Err h) (Ok y) e = absurd (let z : ◌≡◌ {A = ℕ} 0 1 = cc in omega arith)
+one-entry-line (Err h) (Err k) e =
+    let c : reason_code h.reason ≡ reason_code k.reason = cc in
+    let a : h.at ≡ k.at = cc in
+    let s : h ≡ k = one_halt h k c a in
+    rw s

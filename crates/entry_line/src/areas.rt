@@ -5,81 +5,51 @@ ghost use Rattle.format.specs.Entries.{field, spelled, addr as addr_key, area_of
 ghost use Rattle.header.specs.Told.{form_of};
 ghost use Rattle.entry_line.specs.Told.{name_of, addr_of, told_entry};
 
-use crate::entries::halted;
-use crate::{Addr, Entry, EntryLine};
-use entry_parts::{NameAt, addr_field, flags_field, size_field, title};
+use crate::Entry;
+use entry_parts::{Name, addr_field, flags_field, size_field, title};
 use header::Form;
-use numbers::Num;
+use numbers::{Parsed, Read};
 use scan::Kind;
 
-// An addr or none, and the place behind it.
-#[derive(Clone, Copy)]
-struct AddrAt {
-    addr: Addr,
-    next: usize,
-}
-
 // ` addr N` where it can be read; else no byte is used.
-fn addr_at(t: &[u8], at: usize, radix: u8) -> AddrAt
-    ensures { is (addr_of result.addr) result.next ≡ optional (field (spelled addr_key) radix) t.now at }
+fn addr_at(t: &[u8], at: usize, radix: u8) -> Read<Option<u32>>
+    ensures { is (addr_of result.value) result.next ≡ optional (field (spelled addr_key) radix) t.now at }
 {
     match addr_field(t, at, radix) {
-        Num::Is { value, next } => AddrAt {
-            addr: Addr::Given { addr: value },
-            next: next,
+        Ok(addr) => Read {
+            value: Some(addr.value),
+            next: addr.next,
         },
-        Num::No { reason: _, at: _ } => AddrAt {
-            addr: Addr::Absent,
+        Err(_) => Read {
+            value: None,
             next: at,
         },
     }
 }
 
 // ` size N flags N`, and perhaps ` addr N`.
-fn area_of(t: &[u8], at: usize, form: Form, name: usize, len: usize) -> EntryLine
-    ensures { told_entry result ≡ area_of (form_of form) (name_of name len) t.now at }
+fn area_of(t: &[u8], at: usize, form: Form, name: Name) -> Parsed<Entry>
+    ensures { told_entry result ≡ area_of (form_of form) (name_of name.at name.len) t.now at }
 {
-    let radix = form.radix;
-    let z = size_field(t, at, radix);
-    let Num::Is {
-        value: size,
-        next: a,
-    } = z
-    else {
-        return halted(z);
-    };
-    let g = flags_field(t, a, radix);
-    let Num::Is {
-        value: flags,
-        next: b,
-    } = g
-    else {
-        return halted(g);
-    };
-    let given = addr_at(t, b, radix);
-    let addr = given.addr;
-    let c = given.next;
-    EntryLine::Is {
-        entry: Entry::Area {
-            name: name,
-            len: len,
-            size: size,
-            flags: flags,
-            addr: addr,
+    let size = size_field(t, at, form.radix)?;
+    let flags = flags_field(t, size.next, form.radix)?;
+    let addr = addr_at(t, flags.next, form.radix);
+    Ok(Read {
+        value: Entry::Area {
+            name: name.at,
+            len: name.len,
+            size: size.value,
+            flags: flags.value,
+            addr: addr.value,
         },
-        used: scan::past_kind(t, c, Kind::Blank),
-    }
+        next: scan::past_kind(t, addr.next, Kind::Blank),
+    })
 }
 
 // `A name size N flags N`, and perhaps ` addr N`; blanks may trail.
-pub fn parse_area(t: &[u8], form: Form) -> EntryLine
+pub fn parse_area(t: &[u8], form: Form) -> Parsed<Entry>
     ensures { told_entry result ≡ area_line (form_of form) t.now 0 }
 {
-    match title(t, b"A") {
-        NameAt::NoName { reason, at } => EntryLine::No {
-            reason: reason,
-            at: at,
-        },
-        NameAt::Name { at, len, next } => area_of(t, next, form, at, len),
-    }
+    let name = title(t, b"A")?;
+    area_of(t, name.next, form, name.value)
 }

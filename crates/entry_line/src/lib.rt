@@ -1,5 +1,5 @@
 // The lines of group one, one reader each. A reader gets the bytes of one line, with no CR or LF among them,
-// and answers what the line says with the bytes used, or why and where it came to a halt. Places and names are places in the line.
+// and answers what the line says with the place behind it, or why and where it came to a halt. Places and names are places in the line.
 #![tactic(auto)]
 
 mod areas;
@@ -10,14 +10,7 @@ pub use areas::parse_area;
 pub use entries::parse_entry;
 pub use symbols::parse_symdefref;
 
-// An area's addr, where the line gives one.
-#[derive(Clone, Copy)]
-pub enum Addr {
-    Given { addr: u32 },
-    Absent,
-}
-
-// What a line of group one is.
+// What a line of group one is. An area has an addr where the line gives one.
 #[derive(Clone, Copy)]
 pub enum Entry {
     Area {
@@ -25,7 +18,7 @@ pub enum Entry {
         len: usize,
         size: u32,
         flags: u32,
-        addr: Addr,
+        addr: Option<u32>,
     },
     Symbol {
         name: usize,
@@ -34,11 +27,4 @@ pub enum Entry {
         value: u32,
     },
     Ignored,
-}
-
-// A line of group one, or its halt.
-#[derive(Clone, Copy)]
-pub enum EntryLine {
-    Is { entry: Entry, used: usize },
-    No { reason: u8, at: usize },
 }

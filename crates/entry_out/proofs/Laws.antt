@@ -4,7 +4,8 @@ use Prim.Native.Nat.{ℕ, ◌+◌, ◌^◌, ◌<◌}
 use mathlib.Core.Path.{◌≡◌, ap, refl, subst, sym, ◌∙◌}
 use mathlib.Core.Bool.{Bool, false, true}
 use mathlib.Core.List.{List, [], append_assoc, append-nil, ◌++◌, ◌∷◌}
-use mathlib.Core.Option.{Option, none, some}
+use mathlib.Core.Option as the
+use Rattle.std.specs.Prelude.{Option, None, Some}
 use native.Mathlib.Omega.{arith}
 use native.Mathlib.Nat.{add-zero}
 use lib.ListN.{length}
@@ -20,10 +21,10 @@ use Rattle.digits_out.proofs.Laws.{place_in, then-wrote}
 use Rattle.entry_out.specs.EntryOut.{addr_part, area_out, given_addr, hex_specifier, kind_part, symbol_out}
 
 -- the lines are those of every form
-pub area-of-any-form : (f : Form) (name : List ℕ) (z g : ℕ) (a : Option ℕ) → area_out name z g a ≡ line_ended (area_text (hex_of f) name z g a)
+pub area-of-any-form : (f : Form) (name : List ℕ) (z g : ℕ) (a : the.Option ℕ) → area_out name z g a ≡ line_ended (area_text (hex_of f) name z g a)
 unfolding area_out area_text hex_of
-area-of-any-form f name z g none = refl
-area-of-any-form f name z g (some n) = refl
+area-of-any-form f name z g the.none = refl
+area-of-any-form f name z g (the.some n) = refl
 
 pub symbol-of-any-form : (f : Form) (name : List ℕ) (r : Bool) (v : ℕ) → symbol_out name r v ≡ line_ended (symbol_text (hex_of f) name r v)
 unfolding symbol_out symbol_text hex_of
@@ -32,11 +33,11 @@ symbol-of-any-form f name r v = refl
 pub ruleset parts = (rules, then-wrote)
 
 -- `put_addr`
-pub addr-given : (n : ℕ) {t : Bool} {out out₁ : List ℕ} {at r : ℕ} → t ≡ true → Wrote ((32 ∷ 97 ∷ 100 ∷ 100 ∷ 114 ∷ 32 ∷ []) ++ digits_of 16 1 n) out at r out₁ → Wrote (addr_part t n) out at r out₁
+pub addr-given : (n : ℕ) {t : Option ℕ} {out out₁ : List ℕ} {at r : ℕ} → t ≡ Some n → Wrote ((32 ∷ 97 ∷ 100 ∷ 100 ∷ 114 ∷ 32 ∷ []) ++ digits_of 16 1 n) out at r out₁ → Wrote (addr_part t) out at r out₁
 addr-given n e w = rw e w
 
-pub addr-absent : (t : Bool) (n : ℕ) (out : List ℕ) (at : ℕ) → t ≡ false → at < 2 ^ 64 → Wrote (addr_part t n) out at at out
-addr-absent t n out at e h = rw e (record { place = sym (place_in (at + 0) (omega arith) ∙ add-zero at); stored = refl })
+pub addr-absent : (t : Option ℕ) (out : List ℕ) (at : ℕ) → t ≡ None → at < 2 ^ 64 → Wrote (addr_part t) out at at out
+addr-absent t out at e h = rw e (record { place = sym (place_in (at + 0) (omega arith) ∙ add-zero at); stored = refl })
 
 pub ruleset addrs = (rules, addr-given, addr-absent)
 
@@ -60,24 +61,24 @@ area-ended name z g tail =
     ∙ ap (λ (l : List ℕ). name ++ 32 ∷ 115 ∷ 105 ∷ 122 ∷ 101 ∷ 32 ∷ l) (append_assoc z (32 ∷ 102 ∷ 108 ∷ 97 ∷ 103 ∷ 115 ∷ 32 ∷ (g ++ tail)) (10 ∷ [])
     ∙ ap (λ (l : List ℕ). z ++ 32 ∷ 102 ∷ 108 ∷ 97 ∷ 103 ∷ 115 ∷ 32 ∷ l) (append_assoc g tail (10 ∷ []))))
 
-area-bytes : (name : List ℕ) (z g : ℕ) (t : Bool) (x : ℕ)
-    → (((((65 ∷ 32 ∷ []) ++ name) ++ ((32 ∷ 115 ∷ 105 ∷ 122 ∷ 101 ∷ 32 ∷ []) ++ digits_of 16 1 z)) ++ ((32 ∷ 102 ∷ 108 ∷ 97 ∷ 103 ∷ 115 ∷ 32 ∷ []) ++ digits_of 16 1 g)) ++ addr_part t x) ++ 10 ∷ []
-    ≡ area_out name z g (given_addr t x)
+area-bytes : (name : List ℕ) (z g : ℕ) (t : Option ℕ)
+    → (((((65 ∷ 32 ∷ []) ++ name) ++ ((32 ∷ 115 ∷ 105 ∷ 122 ∷ 101 ∷ 32 ∷ []) ++ digits_of 16 1 z)) ++ ((32 ∷ 102 ∷ 108 ∷ 97 ∷ 103 ∷ 115 ∷ 32 ∷ []) ++ digits_of 16 1 g)) ++ addr_part t) ++ 10 ∷ []
+    ≡ area_out name z g (given_addr t)
 unfolding area_out area_text
-area-bytes name z g t x =
-    regroup ((65 ∷ 32 ∷ []) ++ name) ((32 ∷ 115 ∷ 105 ∷ 122 ∷ 101 ∷ 32 ∷ []) ++ digits_of 16 1 z) ((32 ∷ 102 ∷ 108 ∷ 97 ∷ 103 ∷ 115 ∷ 32 ∷ []) ++ digits_of 16 1 g) (addr_part t x) (10 ∷ [])
+area-bytes name z g t =
+    regroup ((65 ∷ 32 ∷ []) ++ name) ((32 ∷ 115 ∷ 105 ∷ 122 ∷ 101 ∷ 32 ∷ []) ++ digits_of 16 1 z) ((32 ∷ 102 ∷ 108 ∷ 97 ∷ 103 ∷ 115 ∷ 32 ∷ []) ++ digits_of 16 1 g) (addr_part t) (10 ∷ [])
     ∙ (ap (λ (l : List ℕ). 65 ∷ 32 ∷ (name ++ 32 ∷ 115 ∷ 105 ∷ 122 ∷ 101 ∷ 32 ∷ (digits_of 16 1 z ++ 32 ∷ 102 ∷ 108 ∷ 97 ∷ 103 ∷ 115 ∷ 32 ∷ (digits_of 16 1 g ++ (l ++ 10 ∷ []))))) (tail t)
-    ∙ sym (area-ended name (digits_of 16 1 z) (digits_of 16 1 g) (spaced (addr_words hex_specifier (given_addr t x)))))
+    ∙ sym (area-ended name (digits_of 16 1 z) (digits_of 16 1 g) (spaced (addr_words hex_specifier (given_addr t)))))
   where
-    tail : (t : Bool) → addr_part t x ≡ spaced (addr_words hex_specifier (given_addr t x))
-    tail true = ap (λ (l : List ℕ). 32 ∷ 97 ∷ 100 ∷ 100 ∷ 114 ∷ 32 ∷ l) (sym (append-nil (digits_of 16 1 x)))
-    tail false = refl
+    tail : (t : Option ℕ) → addr_part t ≡ spaced (addr_words hex_specifier (given_addr t))
+    tail (Some x) = ap (λ (l : List ℕ). 32 ∷ 97 ∷ 100 ∷ 100 ∷ 114 ∷ 32 ∷ l) (sym (append-nil (digits_of 16 1 x)))
+    tail None = refl
 
-pub area-wrote : (name : List ℕ) (z g : ℕ) (t : Bool) (x : ℕ) {out o₁ o₂ o₃ o₄ o₅ : List ℕ} {at p q r s e : ℕ} → length out < 2 ^ 64 → Wrote ((65 ∷ 32 ∷ []) ++ name) out at p o₁
+pub area-wrote : (name : List ℕ) (z g : ℕ) (t : Option ℕ) {out o₁ o₂ o₃ o₄ o₅ : List ℕ} {at p q r s e : ℕ} → length out < 2 ^ 64 → Wrote ((65 ∷ 32 ∷ []) ++ name) out at p o₁
     → Wrote ((32 ∷ 115 ∷ 105 ∷ 122 ∷ 101 ∷ 32 ∷ []) ++ digits_of 16 1 z) o₁ p q o₂ → Wrote ((32 ∷ 102 ∷ 108 ∷ 97 ∷ 103 ∷ 115 ∷ 32 ∷ []) ++ digits_of 16 1 g) o₂ q r o₃
-    → Wrote (addr_part t x) o₃ r s o₄ → Wrote (10 ∷ []) o₄ s e o₅ → Wrote (area_out name z g (given_addr t x)) out at e o₅
-area-wrote name z g t x {out} {o₁} {o₂} {o₃} {o₄} {o₅} {at} {p} {q} {r} {s} {e} h a b c d f =
-    subst (λ (l : List ℕ). Wrote l out at e o₅) (area-bytes name z g t x) (then-wrote h (then-wrote h (then-wrote h (then-wrote h a b) c) d) f)
+    → Wrote (addr_part t) o₃ r s o₄ → Wrote (10 ∷ []) o₄ s e o₅ → Wrote (area_out name z g (given_addr t)) out at e o₅
+area-wrote name z g t {out} {o₁} {o₂} {o₃} {o₄} {o₅} {at} {p} {q} {r} {s} {e} h a b c d f =
+    subst (λ (l : List ℕ). Wrote l out at e o₅) (area-bytes name z g t) (then-wrote h (then-wrote h (then-wrote h (then-wrote h a b) c) d) f)
 
 pub ruleset areas = (rules, area-wrote)
 

@@ -8,13 +8,12 @@ ghost use Rattle.entry_out.specs.EntryOut.{addr_part, area_out, given_addr, kind
 
 use digits_out::{put, put_number, put_word};
 
-// The numbers of an area; addr counts only if it is given.
+// The numbers of an area, and its addr if it is given.
 #[derive(Clone, Copy)]
 pub struct AreaNumbers {
     pub size: u32,
     pub flags: u32,
-    pub given: bool,
-    pub addr: u32,
+    pub addr: Option<u32>,
 }
 
 // Two words.
@@ -34,13 +33,13 @@ fn put_field(out: &mut [u8], at: usize, w: &[u8], n: u32) -> usize
 }
 
 // addr N, if it is given.
-fn put_addr(out: &mut [u8], at: usize, given: bool, n: u32) -> usize
-    ensures { Wrote (addr_part given n) out.old at result out.new }
+fn put_addr(out: &mut [u8], at: usize, addr: Option<u32>) -> usize
+    ensures { Wrote (addr_part addr) out.old at result out.new }
 {
-    if given {
-        return put_field(out, at, b" addr ", n);
+    match addr {
+        Some(n) => put_field(out, at, b" addr ", n),
+        None => at,
     }
-    at
 }
 
 // Ref or Def, and the value.
@@ -55,12 +54,12 @@ fn put_value(out: &mut [u8], at: usize, is_ref: bool, n: u32) -> usize
 
 // A name size N flags N, addr N if it is given, and LF.
 pub fn put_area(out: &mut [u8], at: usize, name: &[u8], n: AreaNumbers) -> usize
-    ensures { Wrote (area_out name.now n.size n.flags (given_addr n.given n.addr)) out.old at result out.new }
+    ensures { Wrote (area_out name.now n.size n.flags (given_addr n.addr)) out.old at result out.new }
 {
     let p = put_both(out, at, b"A ", name);
     let q = put_field(out, p, b" size ", n.size);
     let r = put_field(out, q, b" flags ", n.flags);
-    let s = put_addr(out, r, n.given, n.addr);
+    let s = put_addr(out, r, n.addr);
     put(out, s, b'\n')
 }
 

@@ -5,10 +5,10 @@ ghost use Rattle.numbers.specs.Told.{told};
 
 use crate::parts::field_at;
 use crate::usual::{usual_flags, usual_four};
-use numbers::Num;
+use numbers::Parsed;
 
 // ` size N`. The usual form is read at once.
-pub fn size_field(t: &[u8], at: usize, radix: u8) -> Num
+pub fn size_field(t: &[u8], at: usize, radix: u8) -> Parsed<u32>
     ensures { told result ≡ field (spelled size_key) radix t.now at }
 {
     if usual_four(t, at, b's', b'i', b'z', b'e') {
@@ -18,7 +18,7 @@ pub fn size_field(t: &[u8], at: usize, radix: u8) -> Num
 }
 
 // ` flags N`, likewise.
-pub fn flags_field(t: &[u8], at: usize, radix: u8) -> Num
+pub fn flags_field(t: &[u8], at: usize, radix: u8) -> Parsed<u32>
     ensures { told result ≡ field (spelled flags_key) radix t.now at }
 {
     if usual_flags(t, at) {
@@ -28,7 +28,7 @@ pub fn flags_field(t: &[u8], at: usize, radix: u8) -> Num
 }
 
 // ` addr N`, likewise.
-pub fn addr_field(t: &[u8], at: usize, radix: u8) -> Num
+pub fn addr_field(t: &[u8], at: usize, radix: u8) -> Parsed<u32>
     ensures { told result ≡ field (spelled addr_key) radix t.now at }
 {
     if usual_four(t, at, b'a', b'd', b'd', b'r') {

@@ -9,9 +9,9 @@ mod usual;
 pub use area_fields::{addr_field, flags_field, size_field};
 pub use parts::{field_at, title};
 
-// A name's place and length and the place behind it, or why and where it came to a halt.
+// Where a name stands, and how many bytes it has.
 #[derive(Clone, Copy)]
-pub enum NameAt {
-    Name { at: usize, len: usize, next: usize },
-    NoName { reason: u8, at: usize },
+pub struct Name {
+    pub at: usize,
+    pub len: usize,
 }

@@ -4,18 +4,15 @@ use Prim.Native.Nat.{ℕ}
 use mathlib.Core.Path.{◌≡◌, refl, ◌∙◌, ap, sym}
 use mathlib.Core.List.{List}
 use borrow.Author.Rules.{rules}
+use Rattle.std.specs.Prelude.{Option, None, Some, Result, Ok, Err}
 use Rattle.format.specs.Outcome.{Outcome, fine, refused}
 use Rattle.book.specs.Contents.{Row}
 use Rattle.book.specs.Found.{Found}
 use Rattle.book_read.specs.Told.{Copying, answer_of}
-use Rattle.book_read.specs.declared.Copied.{Copied}
-use Rattle.book_read.specs.declared.Copied.TheVariants as copied
 use Rattle.book_open.specs.Told.{opened_of}
-use Rattle.book_open.specs.declared.open.Opened.{Opened}
-use Rattle.book_open.specs.declared.open.Opened.TheVariants as opened
+use Rattle.book_open.specs.declared.open.Refusal.{Refusal}
 use Rattle.book_find.specs.Told.{found_of}
 use Rattle.book_find.specs.declared.Found.{Found as Looked}
-use Rattle.book_find.specs.declared.Found.TheVariants as looked
 use Rattle.book_rows.specs.Told.{row_by}
 use Rattle.book_rows.specs.declared.row.Row.{Row as Given}
 use Rattle.exports_book.specs.Numbers.{Copies, copied_by, copied_numbers, entry_numbers, found_numbers, opened_numbers}
@@ -25,23 +22,23 @@ use Rattle.exports_book.specs.declared.FoundNumbers.{FoundNumbers}
 use Rattle.exports_book.specs.declared.CopiedNumbers.{CopiedNumbers}
 
 -- the code's answer by its cases
-pub book-numbers : {a : Opened} {n : ℕ} → a ≡ opened.Book n → record { refusal = 0; entries = n; place = 0 } ≡ opened_numbers (opened_of a)
+pub book-numbers : {a : Result ℕ Refusal} {n : ℕ} → a ≡ Ok n → record { refusal = 0; entries = n; place = 0 } ≡ opened_numbers (opened_of a)
 book-numbers e = rw e refl
 
-pub unopened-numbers : {a : Opened} {n p r : ℕ} → a ≡ opened.Refused n p → r ≡ n → record { refusal = r; entries = 0; place = p } ≡ opened_numbers (opened_of a)
-unopened-numbers e f = rw (e, f) refl
+pub unopened-numbers : {a : Result ℕ Refusal} {r : ℕ} (s : Refusal) → a ≡ Err s → r ≡ s.number → record { refusal = r; entries = 0; place = s.place } ≡ opened_numbers (opened_of a)
+unopened-numbers s e f = rw (e, f) refl
 
-pub at-numbers : {a : Looked} {n p : ℕ} → a ≡ looked.At p n → record { refusal = 0; place = p; size = n } ≡ found_numbers (found_of a)
-at-numbers e = rw e refl
+pub at-numbers : {a : Option Looked} (f : Looked) → a ≡ Some f → record { refusal = 0; place = f.place; size = f.size } ≡ found_numbers (found_of a)
+at-numbers f e = rw e refl
 
-pub missing-numbers : {a : Looked} → a ≡ looked.Missing → record { refusal = 23; place = 0; size = 0 } ≡ found_numbers (found_of a)
+pub missing-numbers : {a : Option Looked} → a ≡ None → record { refusal = 23; place = 0; size = 0 } ≡ found_numbers (found_of a)
 missing-numbers e = rw e refl
 
-pub pattern-numbers : {a : Copied} {n : ℕ} → a ≡ copied.Pattern n → record { refusal = 0; size = n; place = 0 } ≡ copied_by a
+pub pattern-numbers : {a : Result ℕ Refusal} {n : ℕ} → a ≡ Ok n → record { refusal = 0; size = n; place = 0 } ≡ copied_by a
 pattern-numbers e = rw e refl
 
-pub uncopied-numbers : {a : Copied} {n p r : ℕ} → a ≡ copied.Refused n p → r ≡ n → record { refusal = r; size = 0; place = p } ≡ copied_by a
-uncopied-numbers e f = rw (e, f) refl
+pub uncopied-numbers : {a : Result ℕ Refusal} {r : ℕ} (s : Refusal) → a ≡ Err s → r ≡ s.number → record { refusal = r; size = 0; place = s.place } ≡ copied_by a
+uncopied-numbers s e f = rw (e, f) refl
 
 pub opened-told : {a o : Outcome ℕ} {r : OpenedNumbers} → r ≡ opened_numbers a → o ≡ a → r ≡ opened_numbers o
 opened-told f e = f ∙ ap opened_numbers (sym e)
@@ -58,7 +55,7 @@ copied-same (fine f) = refl
 copied-same (refused n p) = refl
 
 -- a copying that meets its contract answers with the definition's numbers
-pub copies : {xs values masks new_values new_masks : List ℕ} {o : Outcome Found} {a : Copied} {r : CopiedNumbers}
+pub copies : {xs values masks new_values new_masks : List ℕ} {o : Outcome Found} {a : Result ℕ Refusal} {r : CopiedNumbers}
     → r ≡ copied_by a → Copying xs o values masks a new_values new_masks → Copies xs o values masks r new_values new_masks
 copies {o = o} f m = record { says = f ∙ ap copied_by m.answer ∙ copied-same o; values-hold = m.values-hold; masks-hold = m.masks-hold }
 

@@ -1,12 +1,11 @@
 -- The answers about a pattern book as numbers.
 -- Assumes nothing.
-use Rattle.std.specs.Prelude.{ℕ, ◌≡◌, List}
+use Rattle.std.specs.Prelude.{ℕ, ◌≡◌, List, Result, Ok, Err}
 use Rattle.format.specs.Outcome.{Outcome, fine, refused}
 use Rattle.book.specs.Contents.{Row}
 use Rattle.book.specs.Found.{Found}
 use Rattle.book_read.specs.Told.{values_after, masks_after}
-use Rattle.book_read.specs.declared.Copied.{Copied}
-use Rattle.book_read.specs.declared.Copied.TheVariants as copied
+use Rattle.book_open.specs.declared.open.Refusal.{Refusal}
 use Rattle.exports_book.specs.declared.OpenedNumbers.{OpenedNumbers}
 use Rattle.exports_book.specs.declared.EntryNumbers.{EntryNumbers}
 use Rattle.exports_book.specs.declared.FoundNumbers.{FoundNumbers}
@@ -32,9 +31,9 @@ copied_numbers (fine f) = record { refusal = 0; size = f.size; place = 0 }
 copied_numbers (refused n p) = record { refusal = n; size = 0; place = p }
 
 -- the same of the code's answer
-abbrev pub copied_by : Copied → CopiedNumbers
-copied_by (copied.Pattern n) = record { refusal = 0; size = n; place = 0 }
-copied_by (copied.Refused n p) = record { refusal = n; size = 0; place = p }
+abbrev pub copied_by : Result ℕ Refusal → CopiedNumbers
+copied_by (Ok n) = record { refusal = 0; size = n; place = 0 }
+copied_by (Err r) = record { refusal = r.number; size = 0; place = r.place }
 
 -- the numbers and what is lent, by what is located in a book: equations, so no second answer fits
 pub record Copies (xs : List ℕ) (o : Outcome Found) (values masks : List ℕ) (r : CopiedNumbers) (new_values new_masks : List ℕ) : Type 0 where

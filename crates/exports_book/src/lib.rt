@@ -10,8 +10,8 @@ ghost use Rattle.book_open.specs.Told.{entries_told, opened_of};
 ghost use Rattle.exports_book.specs.Numbers.{Copies, copied_by, entry_numbers, found_numbers, opened_numbers};
 
 use book_find::{Found, find_name};
-use book_open::{Opened, open_book};
-use book_read::{Copied, copy_pattern};
+use book_open::{Refusal, open_book};
+use book_read::copy_pattern;
 use book_rows::row_at;
 
 // What opening tells: 0 and how many entries; or 21 or 22 and its place.
@@ -51,39 +51,33 @@ pub struct CopiedNumbers {
     pub place: usize,
 }
 
-fn wide(x: u8) -> u32
-    ensures { result ≡ x }
-{
-    x as u32
-}
-
-fn opened_numbers(answer: Opened) -> OpenedNumbers
+fn opened_numbers(answer: Result<u32, Refusal>) -> OpenedNumbers
     ensures { result ≡ opened_numbers (opened_of answer) }
 {
     match answer {
-        Opened::Book { entries } => OpenedNumbers {
+        Ok(entries) => OpenedNumbers {
             refusal: 0,
             entries: entries,
             place: 0,
         },
-        Opened::Refused { number, place } => OpenedNumbers {
-            refusal: wide(number),
+        Err(why) => OpenedNumbers {
+            refusal: u32::from(why.number),
             entries: 0,
-            place: place,
+            place: why.place,
         },
     }
 }
 
-fn found_numbers(answer: Found) -> FoundNumbers
+fn found_numbers(answer: Option<Found>) -> FoundNumbers
     ensures { result ≡ found_numbers (found_of answer) }
 {
     match answer {
-        Found::At { place, size } => FoundNumbers {
+        Some(found) => FoundNumbers {
             refusal: 0,
-            place: place,
-            size: size,
+            place: found.place,
+            size: found.size,
         },
-        Found::Missing => FoundNumbers {
+        None => FoundNumbers {
             refusal: 23,
             place: 0,
             size: 0,
@@ -91,19 +85,19 @@ fn found_numbers(answer: Found) -> FoundNumbers
     }
 }
 
-fn copied_numbers(answer: Copied) -> CopiedNumbers
+fn copied_numbers(answer: Result<u32, Refusal>) -> CopiedNumbers
     ensures { result ≡ copied_by answer }
 {
     match answer {
-        Copied::Pattern { size } => CopiedNumbers {
+        Ok(size) => CopiedNumbers {
             refusal: 0,
             size: size,
             place: 0,
         },
-        Copied::Refused { number, place } => CopiedNumbers {
-            refusal: wide(number),
+        Err(why) => CopiedNumbers {
+            refusal: u32::from(why.number),
             size: 0,
-            place: place,
+            place: why.place,
         },
     }
 }

@@ -4,9 +4,8 @@ use Prim.Native.Nat.{ℕ}
 use mathlib.Core.Path.{◌≡◌, ap, ◌∙◌}
 use mathlib.Core.List.{List}
 use borrow.Author.Rules.{rules}
-use Rattle.change_answer.specs.Answer.{told_of}
+use Rattle.change_answer.specs.Answer.{Told, told_of}
 use Rattle.change_answer.specs.Numbers.{changed_numbers}
-use Rattle.change_answer.specs.declared.Told.{Told}
 use Rattle.change_answer.specs.declared.ChangedNumbers.{ChangedNumbers}
 use Rattle.changes_of.specs.Answer.{Changed}
 use Rattle.exports_changes.specs.Numbers.{Answers}

@@ -7,6 +7,7 @@ use mathlib.Core.List.{List}
 use mathlib.Core.Option.{none, some}
 use native.Mathlib.Omega.{arith}
 use borrow.Author.Rules.{rules}
+use Rattle.std.specs.Prelude.{Option, None, Some}
 use Rattle.format.specs.Lists.{pick}
 use Rattle.format.specs.Header as the
 use Rattle.header.specs.Told.{form_of}
@@ -19,8 +20,6 @@ use Rattle.pairs_answer.specs.Numbers.{pairs_numbers}
 use Rattle.pairs_answer.specs.declared.PairsNumbers.{PairsNumbers}
 use Rattle.written_answer.specs.Answer.{Answer, refusal}
 use Rattle.written_answer.specs.Numbers.{FormIs, form_for, formed, is_width, written_numbers}
-use Rattle.written_answer.specs.declared.Formed.{Formed}
-use Rattle.written_answer.specs.declared.Formed.TheVariants.{Is, No}
 use Rattle.written_answer.specs.declared.WrittenNumbers.{WrittenNumbers}
 use Rattle.exports_write.specs.Linked.{Reads, WritesOut}
 
@@ -31,18 +30,18 @@ reads_so text {old} {new} {t} w e = record { answer = t; meets = w; says = e }
 pub ruleset reads = (rules, reads_so)
 
 -- `gatecobalt_write`
-module _ {b : Bool} {n : ℕ} {d : Formed} (e : FormIs b n d) where
+module _ {b : Bool} {n : ℕ} {d : Option Form} (e : FormIs b n d) where
   made : (t : Bool) → is_width n ≡ t → formed d ≡ pick t (some (form_for b n)) none
   made t i = e.is ∙ ap (λ (t : Bool). pick t (some (form_for b n)) none) i
 
-  pub no-width : (rows : Rows) (out : List ℕ) → d ≡ No → {r : WrittenNumbers} → r ≡ record { refusal = 15; bytes = 0 } → WritesOut b n rows out r out
+  pub no-width : (rows : Rows) (out : List ℕ) → d ≡ None → {r : WrittenNumbers} → r ≡ record { refusal = 15; bytes = 0 } → WritesOut b n rows out r out
   no-width rows out g {r} k = go (is_width n) refl
     where
       go : (t : Bool) → is_width n ≡ t → WritesOut b n rows out r out
       go true i = let z : none ≡ some (form_for b n) = ap formed (sym g) ∙ made true i in let y : ◌≡◌ {A = ℕ} 0 1 = cc in absurd (omega arith)
       go false i = record { answer = refusal 15 0; writes = rw i (refl, refl); says = k }
 
-  pub writes-so : {f : Form} → d ≡ Is f → {rows : Rows} {out out' : List ℕ} {t : Answer} {r : WrittenNumbers} → Writes (form_of f) rows out t out' → r ≡ written_numbers t → WritesOut b n rows out r out'
+  pub writes-so : {f : Form} → d ≡ Some f → {rows : Rows} {out out' : List ℕ} {t : Answer} {r : WrittenNumbers} → Writes (form_of f) rows out t out' → r ≡ written_numbers t → WritesOut b n rows out r out'
   writes-so {f} g {rows} {out} {out'} {t} {r} w k = go (is_width n) refl
     where
       go : (u : Bool) → is_width n ≡ u → WritesOut b n rows out r out'

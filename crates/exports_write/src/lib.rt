@@ -8,7 +8,7 @@ ghost use Rattle.row_texts.specs.RowRecords.{lent};
 
 use pairs_answer::{PairsNumbers, pairs_numbers};
 use writer::write_module;
-use written_answer::{Formed, WrittenNumbers, form_for, written_numbers};
+use written_answer::{WrittenNumbers, form_for, written_numbers};
 
 // The T and R records of a text, into three lent buffers.
 #[unsafe(no_mangle)]
@@ -41,7 +41,7 @@ pub extern "C" fn gatecobalt_write(
 ) -> WrittenNumbers
     ensures { WritesOut big width (lent text.now areas.now na symbols.now ns pairs.now np content.now fragments.now) out.old result out.new }
 {
-    let Formed::Is { form } = form_for(big, width) else {
+    let Some(form) = form_for(big, width) else {
         return WrittenNumbers {
             refusal: 15,
             bytes: 0,

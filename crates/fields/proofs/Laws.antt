@@ -1,5 +1,4 @@
 -- What the proofs share.
 -- Assumes nothing.
 pub mod Fields
-pub mod Halts
 pub mod Ignored

@@ -3,16 +3,27 @@
 use Prim.Native.Nat.{ℕ}
 use mathlib.Core.Path.{◌≡◌}
 use native.Mathlib.Omega.{arith}
+use Rattle.std.specs.Prelude.{Result, Ok, Err}
+use Rattle.numbers.proofs.Unique.{one_number}
+use Rattle.numbers.specs.Told.{told, code}
+use Rattle.numbers.specs.declared.Halt.{Halt}
+use Rattle.numbers.specs.declared.Read.{Read}
 use Rattle.fields.specs.Told.{went}
-use Rattle.fields.specs.declared.Place.{Place}
-use Rattle.fields.specs.declared.Place.TheVariants.{At, Not}
+
+-- a halt is told by its reason's number and its place
+pub one_halt : (h k : Halt) → code h.reason ≡ code k.reason → h.at ≡ k.at → h ≡ k
+one_halt h k c a =
+    let e : told (Err h) ≡ told (Err k) = rw (c, a) in
+    let f : ◌≡◌ {A = Result (Read ℕ) Halt} (Err h) (Err k) = one_number (Err h) (Err k) e in
+    cc
 
 -- `lead_at`, `ignore_line`
-pub one_place : (a b : Place) → went a ≡ went b → a ≡ b
-one_place (At n) (At m) e = let p : n ≡ m = cc in rw p
-one_place (At n) (Not r p) e = absurd (let z : ◌≡◌ {A = ℕ} 0 1 = cc in omega arith)
-one_place (Not r p) (At n) e = absurd (let z : ◌≡◌ {A = ℕ} 0 1 = cc in omega arith)
-one_place (Not r p) (Not s q) e =
-    let a : r ≡ s = cc in
-    let b : p ≡ q = cc in
-    rw (a, b)
+pub one_place : (a b : Result ℕ Halt) → went a ≡ went b → a ≡ b
+one_place (Ok n) (Ok m) e = let p : n ≡ m = cc in rw p
+one_place (Ok n) (Err h) e = absurd (let z : ◌≡◌ {A = ℕ} 0 1 = cc in omega arith)
+one_place (Err h) (Ok n) e = absurd (let z : ◌≡◌ {A = ℕ} 0 1 = cc in omega arith)
+one_place (Err h) (Err k) e =
+    let c : code h.reason ≡ code k.reason = cc in
+    let a : h.at ≡ k.at = cc in
+    let s : h ≡ k = one_halt h k c a in
+    rw s

@@ -1,20 +1,16 @@
--- The code's answers about what lines share, as the definition's ones, and a halt in an answer of another kind.
+-- The code's answers about what lines share, as the definition's ones.
 -- Assumes nothing.
-use Rattle.std.specs.Prelude.{ℕ, Bool, false, ◌||◌, List, [], ◌∷◌, eqb}
+use Rattle.std.specs.Prelude.{ℕ, Bool, false, ◌||◌, List, [], ◌∷◌, eqb, Result, Ok, Err}
 use Rattle.format.specs.Got.{Got, is, isnt}
-use Rattle.fields.specs.declared.Place.{Place}
-use Rattle.fields.specs.declared.Place.TheVariants.{At, Not}
+use Rattle.numbers.specs.Told.{code}
+use Rattle.numbers.specs.declared.Halt.{Halt}
 
-abbrev pub went : Place → Got Unit
-went (At n) = is tt n
-went (Not r p) = isnt r p
+-- the place behind what has no value
+abbrev pub went : Result ℕ Halt → Got Unit
+went (Ok n) = is tt n
+went (Err h) = isnt (code h.reason) h.at
 
 -- one of the letters
 unfoldable pub one_of : List ℕ → ℕ → Bool
 one_of [] b = false
 one_of (c ∷ cs) b = let r = one_of cs b in eqb b c || r
-
--- a halt's reason and place, in an answer of another kind
-abbrev pub halt : {A B : Type 0} → Got A → Got B
-halt (isnt r p) = isnt r p
-halt (is a n) = isnt 4 n

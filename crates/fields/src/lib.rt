@@ -7,40 +7,37 @@ ghost use Rattle.format.specs.Entries.{lead};
 ghost use Rattle.fields.specs.Told.{went};
 ghost use Rattle.fields.specs.Due.{Due};
 
+use numbers::{Halt, Reason};
 use scan::Kind;
 
 mod ignored;
 
 pub use ignored::ignore_line;
 
-// The place behind what has no value, or why and where it came to a halt.
-#[derive(Clone, Copy)]
-pub enum Place {
-    At { next: usize },
-    Not { reason: u8, at: usize },
-}
-
-// A word and blanks.
-pub fn lead_at(t: &[u8], at: usize, w: &[u8]) -> Place
+// A word and blanks: the place behind them.
+pub fn lead_at(t: &[u8], at: usize, w: &[u8]) -> Result<usize, Halt>
     ensures { went result ≡ lead w.now t.now at }
 {
     let a = scan::past_word(t, at, w);
     if a == at {
-        return Place::Not { reason: 4, at: at };
+        return Err(Halt {
+            reason: Reason::Other,
+            at,
+        });
     }
     let b = scan::past_kind(t, a, Kind::Blank);
     if b == a {
-        return Place::Not { reason: 4, at: a };
+        return Err(Halt {
+            reason: Reason::Other,
+            at: a,
+        });
     }
-    Place::At { next: b }
+    Ok(b)
 }
 
 // Whether a byte is the one that is due, and those before it were.
 pub fn same_so_far(b: u8, due: u8, before: bool) -> bool
     ensures { Due b due before result }
 {
-    if b != due {
-        return false;
-    }
-    before
+    b == due && before
 }

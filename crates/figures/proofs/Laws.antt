@@ -19,31 +19,8 @@ use Rattle.laws.specs.Rows.{fixup_from, fixup_row, fixups_in, from, known_at}
 use Rattle.laws.proofs.Areas.{one_at_most}
 use Rattle.mode.specs.Class.{told_class}
 use Rattle.mode.specs.declared.class.JumpType.{JumpType}
-use Rattle.mode.specs.declared.class.JumpType.TheVariants as jump
 use Rattle.figures.specs.Figures.{class_count, classes_of, known_in, sum}
 use Rattle.figures.specs.declared.Classes.{Classes}
-
--- `number_of`
-module _ {c : JumpType} where
-  pub of-addr19 : c ≡ jump.Addr19 → 0 ≡ class_number (told_class c)
-  of-addr19 e = rw e
-
-  pub of-addr11 : c ≡ jump.Addr11 → 1 ≡ class_number (told_class c)
-  of-addr11 e = rw e
-
-  pub of-addr24 : c ≡ jump.Addr24 → 2 ≡ class_number (told_class c)
-  of-addr24 e = rw e
-
-  pub of-addr16 : c ≡ jump.Addr16 → 3 ≡ class_number (told_class c)
-  of-addr16 e = rw e
-
-  pub of-byte : c ≡ jump.Byte → 4 ≡ class_number (told_class c)
-  of-byte e = rw e
-
-  pub of_other : c ≡ jump.Other → 5 ≡ class_number (told_class c)
-  of_other e = rw e
-
-pub ruleset numbers = (rules, of-addr19, of-addr11, of-addr24, of-addr16, of-byte, of_other)
 
 -- `one_if`
 module _ (rows : List ℕ) (j class : ℕ) {m : ℕ} (em : m ≡ get_or rows (9 * j + 3) 0) (c : JumpType) (ec : told_class c ≡ class_of m) {x : ℕ} (ex : x ≡ class_number (told_class c)) where

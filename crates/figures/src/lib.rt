@@ -3,13 +3,12 @@
 
 ghost use Rattle.std.specs.Prelude.{◌≡◌, min, eqb};
 ghost use Rattle.format.specs.Lists.{pick};
-ghost use Rattle.format.specs.Mode.{class_number, class_number_of};
+ghost use Rattle.format.specs.Mode.{class_number_of};
 ghost use Rattle.laws.specs.Rows.{fixup_row, fixups_in};
-ghost use Rattle.mode.specs.Class.{told_class};
 ghost use Rattle.figures.specs.Figures.{class_count, classes_of, known_in};
 
 use area_rows::known_bits;
-use mode::{JumpType, class_of};
+use mode::{class_number, class_of};
 use row_parts::fixup_cell;
 
 // How many fixups there are of each class.
@@ -22,32 +21,11 @@ pub struct Classes {
     pub byte: u64,
 }
 
-// A number as one of 64 bits.
-fn long(x: u32) -> u64
-    ensures { result ≡ x }
-{
-    x as u64
-}
-
-// The number of a class, as the table of modes has it.
-fn number_of(class: JumpType) -> u32
-    ensures { result ≡ class_number (told_class class) }
-{
-    match class {
-        JumpType::Addr19 => 0,
-        JumpType::Addr11 => 1,
-        JumpType::Addr24 => 2,
-        JumpType::Addr16 => 3,
-        JumpType::Byte => 4,
-        JumpType::Other => 5,
-    }
-}
-
 // 1 if fixup j is of the class with a number.
-fn one_if(fixups: &[u32], j: usize, class: u32) -> u64
+fn one_if(fixups: &[u32], j: usize, class: u8) -> u64
     ensures { result ≡ pick (eqb (class_number_of (fixup_row fixups.now j).mode) class) 1 0 }
 {
-    if number_of(class_of(fixup_cell(fixups, j, 3))) == class {
+    if class_number(class_of(fixup_cell(fixups, j, 3))) == class {
         1
     } else {
         0
@@ -55,14 +33,12 @@ fn one_if(fixups: &[u32], j: usize, class: u32) -> u64
 }
 
 // How many of the first n fixups are of the class with a number.
-fn count(fixups: &[u32], n: usize, class: u32) -> u64
+fn count(fixups: &[u32], n: usize, class: u8) -> u64
     ensures { result ≡ class_count class (fixups_in fixups.now n) }
 {
     let mut many: u64 = 0;
-    let mut j: usize = 0;
-    while j < n {
+    for j in 0..n {
         many += one_if(fixups, j, class);
-        j += 1;
     }
     many
 }
@@ -80,23 +56,14 @@ pub fn classes_in(fixups: &[u32], n: usize) -> Classes
     }
 }
 
-// The lesser of two counts.
-fn fewer(a: usize, b: usize) -> usize
-    ensures { result ≡ min a b }
-{
-    if a <= b { a } else { b }
-}
-
 // The known bits of the first n areas, of 64 at most.
 pub fn known_in(areas: &[u32], n: usize) -> u64
     ensures { result ≡ known_in areas.now (min n 64) }
 {
-    let k = fewer(n, 64);
+    let k = n.min(64);
     let mut bits: u64 = 0;
-    let mut j: usize = 0;
-    while j < k {
-        bits += long(known_bits(areas, j));
-        j += 1;
+    for j in 0..k {
+        bits += u64::from(known_bits(areas, j));
     }
     bits
 }

@@ -3,4 +3,3 @@
 pub mod Tests
 pub mod Fragments
 pub mod Spans
-pub mod Rows

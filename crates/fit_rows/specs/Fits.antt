@@ -1,7 +1,6 @@
 -- The conditions on a module whose code is laid, over the rows of its records.
 -- Assumes nothing.
 use Rattle.std.specs.Prelude.{ℕ, zero, suc, min, ◌+◌, ◌*◌, Bool, true, false, not, ◌&&◌, List, get_or, eqb, ltb, leb}
-use Rattle.format.specs.Lists.{pick}
 use Rattle.format.specs.Header.{Form}
 use Rattle.laws.specs.Rows.{from}
 use Rattle.homes.specs.Home.{home_at}

@@ -15,47 +15,23 @@ use target_words::has;
 fn is_whole(mode: u32) -> bool
     ensures { result ≡ whole (class_of mode) }
 {
-    let class = class_of(mode);
-    match class {
-        JumpType::Addr24 => true,
-        JumpType::Addr19 => false,
-        JumpType::Addr16 => true,
-        JumpType::Addr11 => false,
-        JumpType::Byte => false,
-        JumpType::Other => false,
-    }
+    matches!(class_of(mode), JumpType::Addr24 | JumpType::Addr16)
 }
 
 // Bits 2, 5, 6, 9 and 10 clear.
+#[tactic(auto, unfolding(laid::specs::Fit::clear))]
 fn is_clear(mode: u32) -> bool
     ensures { result ≡ clear mode }
 {
-    if has(mode, 2) {
-        return false;
-    }
-    if has(mode, 5) {
-        return false;
-    }
-    if has(mode, 6) {
-        return false;
-    }
-    if has(mode, 9) {
-        return false;
-    }
-    !has(mode, 10)
+    !(has(mode, 2) || has(mode, 5) || has(mode, 6) || has(mode, 9) || has(mode, 10))
 }
 
 // A fragment of such a mode at or behind the address length.
+#[tactic(auto, unfolding(laid::specs::Fit::fit_fragment))]
 fn fits_fragment(mode: u32, entry: u32, width: u32) -> bool
     ensures { (index : ℕ) → result ≡ fit_fragment (form_by width) (fragment mode entry index) }
 {
-    if !is_whole(mode) {
-        return false;
-    }
-    if !is_clear(mode) {
-        return false;
-    }
-    width <= entry
+    is_whole(mode) && is_clear(mode) && width <= entry
 }
 
 // How many entries a mode touches.
@@ -67,14 +43,12 @@ fn touches(mode: u32) -> u32
 }
 
 // Whether two fragments touch no entry in common.
+#[tactic(auto, unfolding(laid::specs::Fit::beside))]
 fn is_beside(m: u32, e: u32, n: u32, f: u32) -> bool
     ensures { (x y : ℕ) → result ≡ beside (fragment m e x) (fragment n f y) }
 {
     let end = wide(e) + wide(touches(m));
-    if end <= wide(f) {
-        return true;
-    }
-    wide(f) + wide(touches(n)) <= wide(e)
+    end <= wide(f) || wide(f) + wide(touches(n)) <= wide(e)
 }
 
 // Whether a fragment touches no entry in common with those of n rows from the k-th on.
@@ -82,13 +56,11 @@ fn beside_all(rows: &[u32], mode: u32, entry: u32, k: usize, n: usize) -> bool
     requires { k + n ≤ 12884901888 }
     ensures { (index : ℕ) → result ≡ beside_all (fragment mode entry index) (from (fragment_from rows.now) k n) }
 {
-    let mut i: usize = 0;
-    while i < n {
+    for i in 0..n {
         let p = 3 * (k + i);
         if !is_beside(mode, entry, at(rows, p), at(rows, p + 1)) {
             return false;
         }
-        i += 1;
     }
     true
 }
@@ -98,8 +70,7 @@ fn fit_fragments(rows: &[u32], k: usize, n: usize, width: u32) -> bool
     requires { (k ≤ 4294967296) × (n ≤ 4294967296) }
     ensures { result ≡ fit_fragments (form_by width) (from (fragment_from rows.now) k n) }
 {
-    let mut i: usize = 0;
-    while i < n {
+    for i in 0..n {
         let p = 3 * (k + i);
         let mode = at(rows, p);
         let entry = at(rows, p + 1);
@@ -109,7 +80,6 @@ fn fit_fragments(rows: &[u32], k: usize, n: usize, width: u32) -> bool
         if !beside_all(rows, mode, entry, k + i + 1, n - i - 1) {
             return false;
         }
-        i += 1;
     }
     true
 }
@@ -128,12 +98,10 @@ pub(crate) fn fit_bodies(pairs: &[u32], rows: &[u32], n: usize, width: u32) -> b
     requires { n ≤ 4096 }
     ensures { result ≡ bodies_from width pairs.now rows.now 0 n }
 {
-    let mut k: usize = 0;
-    while k < n {
+    for k in 0..n {
         if !fit_body(pairs, rows, k, width) {
             return false;
         }
-        k += 1;
     }
     true
 }

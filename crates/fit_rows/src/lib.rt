@@ -11,6 +11,7 @@ use crate::fragments::fit_bodies;
 use crate::spans::are_apart;
 
 // Each fragment is Addr16 or Addr24 with bits 2, 5, 6, 9 and 10 clear at or behind the address length, fragments of one pair touch no entry in common, and pairs write no common position.
+#[tactic(auto, unfolding(crate::specs::Fits::fits_rows))]
 pub fn fits_rows(
     areas: &[u32],
     na: usize,
@@ -21,11 +22,5 @@ pub fn fits_rows(
 ) -> bool
     ensures { result ≡ fits_rows areas.now na pairs.now fragments.now n width }
 {
-    if 4096 < n {
-        return false;
-    }
-    if !fit_bodies(pairs, fragments, n, width) {
-        return false;
-    }
-    are_apart(areas, na, pairs, n)
+    n <= 4096 && fit_bodies(pairs, fragments, n, width) && are_apart(areas, na, pairs, n)
 }

@@ -7,6 +7,7 @@ use homes::home_at;
 use rooms::PAIR_WIDTH;
 
 // Whether the j-th pair's bytes and the positions from s up to e of an area have one in common.
+#[tactic(auto, unfolding(crate::specs::Fits::meets))]
 fn meets(pairs: &[u32], area: u32, s: usize, e: usize, j: usize) -> bool
     requires { j ≤ 4096 }
     ensures { result ≡ meets_of pairs.now area s e j }
@@ -15,18 +16,9 @@ fn meets(pairs: &[u32], area: u32, s: usize, e: usize, j: usize) -> bool
     if at(pairs, p + 2) != area {
         return false;
     }
-    if e <= s {
-        return false;
-    }
     let b = wide(at(pairs, p + 1));
     let d = b + wide(at(pairs, p + 4));
-    if d <= s {
-        return false;
-    }
-    if e <= b {
-        return false;
-    }
-    b < d
+    s < e && s < d && b < e && b < d
 }
 
 // Whether none of n pairs from the k-th on has.
@@ -34,17 +26,16 @@ fn is_clear_of(pairs: &[u32], area: u32, s: usize, e: usize, k: usize, n: usize)
     requires { k + n ≤ 4096 }
     ensures { result ≡ clear_from pairs.now area s e k n }
 {
-    let mut i: usize = 0;
-    while i < n {
+    for i in 0..n {
         if meets(pairs, area, s, e, k + i) {
             return false;
         }
-        i += 1;
     }
     true
 }
 
 // Where the k-th pair's bytes end in its area's image.
+#[tactic(auto, unfolding(crate::specs::Fits::end_at))]
 fn end_at(areas: &[u32], na: usize, pairs: &[u32], k: usize) -> usize
     requires { k ≤ 4096 }
     ensures { result ≡ end_at areas.now na pairs.now k }
@@ -52,8 +43,7 @@ fn end_at(areas: &[u32], na: usize, pairs: &[u32], k: usize) -> usize
     let p = PAIR_WIDTH * k;
     let home = home_at(areas, na, wide(at(pairs, p + 2)));
     let d = wide(at(pairs, p + 1)) + wide(at(pairs, p + 4));
-    let size = wide(home.size);
-    if d <= size { d } else { size }
+    d.min(wide(home.size))
 }
 
 // Whether the k-th pair writes no position in common with the n behind it.
@@ -72,12 +62,10 @@ pub(crate) fn are_apart(areas: &[u32], na: usize, pairs: &[u32], n: usize) -> bo
     requires { n ≤ 4096 }
     ensures { result ≡ apart_from areas.now na pairs.now 0 n }
 {
-    let mut k: usize = 0;
-    while k < n {
+    for k in 0..n {
         if !is_apart(areas, na, pairs, k, n - k - 1) {
             return false;
         }
-        k += 1;
     }
     true
 }

@@ -1,7 +1,7 @@
 -- The laws of the fixups that a side lacks.
 -- Assumes nothing.
 use Prim.Native.Nat.{ℕ, zero, suc, ◌+◌, ◌-◌, ◌<◌, ◌≤◌}
-use native.Mathlib.Nat.{add-suc, suc-add, add-zero}
+use native.Mathlib.Nat.{add-suc, suc-add}
 use mathlib.Core.Path.{◌≡◌, refl, ap, subst, sym, ◌∙◌}
 use mathlib.Core.Bool.{Bool, true, false, not}
 use mathlib.Core.List.{List, [], ◌∷◌, ◌++◌}
@@ -9,7 +9,7 @@ use native.Mathlib.Omega.{arith}
 use native.Mathlib.Numerals.{add-one}
 use lib.Dec.{eqb, ltb}
 use borrow.Author.Rules.{rules}
-use borrow.Author.Tests.{lt-ltb, le-ltb, eqb-true, eqb-false, ltb-true, ltb-false}
+use borrow.Author.Tests.{lt-ltb, le-ltb, eqb-true, eqb-false, ltb-true}
 use Rattle.format.specs.Lists.{pick}
 use Rattle.format.specs.Fixups as the
 use Rattle.laws.specs.Rows.{fixup_row, fixups_in, from}
@@ -18,14 +18,13 @@ use Rattle.fixup_rows.specs.Fixups.{told_fixup}
 use Rattle.fixup_rows.specs.declared.fixup.Fixup.{Fixup}
 use Rattle.alike.specs.Parts.{same_at}
 use Rattle.alike.specs.Looked.{first_of, like_from}
-use Rattle.difference.specs.Module.{At, numbered, passing, same_numbers, says}
-use Rattle.difference.specs.Changes.{Change, each, fixup, newer, older, said_in}
+use Rattle.difference.specs.Module.{At, numbered, passing, says}
+use Rattle.difference.specs.Changes.{Change, each, fixup, said_in}
 use Rattle.difference.specs.Rows.{change_numbers}
 use Rattle.change_rows.specs.Room.{few_of}
 use Rattle.change_rows.proofs.Room.{few-all, few-is, walk-left, walk-taken}
-use Rattle.change_rows.specs.Walk.{Added, Walked, WalkedIf}
+use Rattle.change_rows.specs.Walk.{Put, Walked, WalkedIf}
 use Rattle.fixup_changes.specs.Here.{lack_here, lacking_in, side_if}
-use Rattle.fixup_changes.specs.declared.Turn.{Turn}
 use Rattle.change_rows.proofs.Going.{Going, going_end, going_start, going_step, no_row, one-row, put-added}
 
 -- `kind`, `lies_in`
@@ -105,11 +104,12 @@ module _ (b : Bool) (id : ℕ) (s xs : List ℕ) (i : ℕ) (t ys : List ℕ) (n 
         let y : said_in (says s (fixup_row xs i)) t (fixups_in ys n) ≡ true = like-said s xs i t ys n x ∙ (ap (λ (k : ℕ). ltb k n) (sym g) ∙ lt-ltb j n h) in
         no_row w list count here 1 (rw (← e, f, y))
 
-    pub fixup-lacks : n ≤ j → {k y : ℕ} → k ≡ pick b 4 3 → y ≡ i → {r : ℕ} {after : List ℕ} → Added w list count (k ∷ id ∷ y ∷ 0 ∷ 0 ∷ 0 ∷ 0 ∷ 0 ∷ []) r after → Walked w list count here 1 r after
+    pub fixup-lacks : n ≤ j → count < 4294967296 → {k y u v o z : ℕ} → {r : ℕ} {after : List ℕ} → Put w list count (k ∷ id ∷ y ∷ u ∷ v ∷ o ∷ z ∷ 0 ∷ []) r after
+        → k ≡ pick b 4 3 → y ≡ i → u ≡ 0 → v ≡ 0 → o ≡ 0 → z ≡ 0 → Walked w list count here 1 r after
     unfolding lack_here
-    fixup-lacks h {k} {y} p q a =
+    fixup-lacks h low {k} {y} a p q d1 d2 d3 d4 =
         let z : said_in (says s (fixup_row xs i)) t (fixups_in ys n) ≡ false = like-said s xs i t ys n x ∙ (ap (λ (m : ℕ). ltb m n) (sym g) ∙ le-ltb j n h) in
-        one-row a (fixup (side_if b) id i) (numbers-are b id i ∙ rw (p, q)) here (rw (← e, f, z))
+        one-row (put-added low a) (fixup (side_if b) id i) (numbers-are b id i ∙ rw (p, q, d1, d2, d3, d4)) here (rw (← e, f, z))
 
 pub ruleset lacks = (rules, fixup-elsewhere, fixup-there, fixup-lacks)
 
@@ -185,6 +185,3 @@ pub ruleset wholes = (rules, too_many, few-taken, few-all)
 pub the-fixups : {count m n : ℕ} {w : Bool} {list : List ℕ} {cs : List Change} {r : ℕ} {after : List ℕ} → count ≤ 536870912 → m ≤ 1024 → n ≤ 1024
     → WalkedIf (few_of count m n) w list count cs 1024 r after → Walked w list count cs 1024 r after
 the-fixups {count} {m} {n} h k l a = a.taken (few-is count m n h k l)
-
--- `add`
-pub ruleset adds = (rules, put-added)

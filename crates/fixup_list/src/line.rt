@@ -1,11 +1,8 @@
 // A fixup's line on standard output.
 use fixup_rows::Fixup;
 
-// Writes the line of a fixup behind the entry of a pattern book that it lies in, and answers whether it was written; nothing where one before it was not.
-pub(crate) fn line(name: &[u8], text: &[u8], f: Fixup, going: bool) -> bool {
-    if !going {
-        return false;
-    }
+// Writes the line of a fixup behind the entry of a pattern book that it lies in, and answers whether it was written.
+pub(crate) fn line(name: &[u8], text: &[u8], f: Fixup) -> bool {
     let mut out = io::large_buffer();
     let s1 = texts::name(sink::new(), &mut out, name);
     let s2 = texts::decimal(s1, &mut out, b":", cells::wide(f.home));

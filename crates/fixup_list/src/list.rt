@@ -11,10 +11,8 @@ use fixup_rows::{Fixup, fixup_at};
 fn take_rows(list: &mut [Fixup], rows: &[u32])
     ensures { map told_fixup list.new ≡ fixups_in rows.now (length list.old) }
 {
-    let mut i = 0;
-    while i < list.len() {
+    for i in 0..list.len() {
         list[i] = fixup_at(rows, i);
-        i += 1;
     }
 }
 
@@ -22,13 +20,7 @@ fn take_rows(list: &mut [Fixup], rows: &[u32])
 fn tell(name: &[u8], text: &[u8], list: &[Fixup], n: usize) -> bool
     requires { n ≤ length list.now }
 {
-    let mut going = true;
-    let mut k = 0;
-    while k < n {
-        going = line(name, text, list[k], going);
-        k += 1;
-    }
-    going
+    list[..n].iter().all(|f| line(name, text, *f))
 }
 
 // The lines of the first n fixups of a module's rows, of which there are no more than a module can have.

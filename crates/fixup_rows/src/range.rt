@@ -18,15 +18,12 @@ fn fixup_in(fixups: &[u32], j: usize, id: usize, same: bool) -> bool
 fn past_fixups(fixups: &[u32], n: usize, from: usize, id: usize, same: bool) -> usize
     ensures { result ≡ passing (fixup_in fixups.now id same) from (n - from) }
 {
-    let mut j = from;
-    while j < n {
-        if fixup_in(fixups, j, id, same) {
-            j += 1;
-        } else {
+    for j in from..n {
+        if !fixup_in(fixups, j, id, same) {
             return j;
         }
     }
-    j
+    n.max(from)
 }
 
 // The fixups of the area of an id, among n fixups.

@@ -12,6 +12,7 @@ use lib.ListN.{length, get_or}
 use lib.Seq.{sets, get_or-take}
 use borrow.Author.Rules.{rules}
 use borrow.Author.Tests.{ltb-true}
+use Rattle.std.specs.Prelude.{Result, Ok, Err}
 use Rattle.format.specs.Lists.{pick}
 use Rattle.format.specs.Mode.{on_site}
 use Rattle.format.specs.Outcome.{Outcome, fine, refused}
@@ -22,17 +23,15 @@ use Rattle.sites.specs.declared.Site.{Site}
 use Rattle.references.specs.declared.Reference.{Reference}
 use Rattle.references.specs.declared.Refers.{Refers}
 use Rattle.references.specs.declared.Refers.TheVariants.{Missing, Nothing, To}
-use Rattle.row_count.specs.declared.RowCount.{RowCount}
-use Rattle.row_count.specs.declared.RowCount.TheVariants.{Refused, Rows}
 use Rattle.row_count.specs.Count.{count_one, OneMore}
 use Rattle.fixup_row.specs.Row.{row_of}
 use Rattle.fixups.specs.Walk.{fixup, Within, OneRow, Added}
 use Rattle.fixups.proofs.RowLaws.{row_made, row-rest}
 
-pub same : (k : ℕ) (rows : List ℕ) → k ≤ 1024 → Within k (Rows k) rows rows
+pub same : (k : ℕ) (rows : List ℕ) → k ≤ 1024 → Within k (Ok k) rows rows
 same k rows h = record { room = h; grew = omega arith; rest = refl }
 
-pub stopped : (k n : ℕ) (rows : List ℕ) → k ≤ 1024 → Within k (Refused n) rows rows
+pub stopped : (k n : ℕ) (rows : List ℕ) → k ≤ 1024 → Within k (Err n) rows rows
 stopped k n rows h = record { room = omega arith; grew = h; rest = refl }
 
 -- 12 and 13 do not see the rows
@@ -53,15 +52,15 @@ put-made : (rows : List ℕ) (k a b c d : ℕ) (t : Reference) (i : ℕ) {rows' 
 put-made rows k a b c d t i l j p = record { made = row_made rows k a b c d t i l j p; rest = row-rest rows k a b c d t i l j p }
 
 -- `write_row`: r is what the count said
-module _ (s : Site) (ms ns : List ℕ) (t : Reference) (i position k : ℕ) (rows : List ℕ) {r : RowCount} (a : OneMore i s.made k r) where
-  pub row-refused : k ≤ 1024 → {x : ℕ} → r ≡ Refused x → Added s ms ns (To t) i position k rows r rows
+module _ (s : Site) (ms ns : List ℕ) (t : Reference) (i position k : ℕ) (rows : List ℕ) {r : Result ℕ ℕ} (a : OneMore i s.made k r) where
+  pub row-refused : k ≤ 1024 → {x : ℕ} → r ≡ Err x → Added s ms ns (To t) i position k rows (Err x) rows
   unfolding count_one
   row-refused hk {x} g = record {
-    says = λ w f en el eh em. rw (g, el, count-rows rows k) (refusal (ltb i s.made) (ltb k 1024) x w.place (suc k) _ (rw g at (a.says w.place)));
-    within = rw g (stopped k x rows hk);
+    says = λ w f en el eh em. rw (el, count-rows rows k) (refusal (ltb i s.made) (ltb k 1024) x w.place (suc k) _ (rw g at (a.says w.place)));
+    within = stopped k x rows hk;
   }
 
-  module _ {x : ℕ} (g : r ≡ Rows x) where
+  module _ {x : ℕ} (g : r ≡ Ok x) where
     tests : ((ltb i s.made ≡ true) × (ltb k 1024 ≡ true)) × (x ≡ suc k)
     unfolding count_one
     tests = passes (ltb i s.made) (ltb k 1024) x 0 (suc k) (rw g at (a.says 0))
@@ -72,7 +71,7 @@ module _ (s : Site) (ms ns : List ℕ) (t : Reference) (i position k : ℕ) (row
     pub row_fits : Fits w64 (9 * k)
     row_fits = record { fits = omega (arith, row_room) }
 
-    pub row-added : 9216 ≤ length rows → {rows' : List ℕ} → rows' ≡ sets rows (9 * k) (row_of s ms ns t i position) → Added s ms ns (To t) i position k rows (Rows x) rows'
+    pub row-added : 9216 ≤ length rows → {rows' : List ℕ} → rows' ≡ sets rows (9 * k) (row_of s ms ns t i position) → Added s ms ns (To t) i position k rows (Ok x) rows'
     unfolding fixup_of row_of
     row-added l {rows'} e =
         let p : OneRow k (fixup s.id position (on_site (get_or ms i 0)) (get_or ms i 0) t (get_or ns i 0)) rows rows' =
@@ -99,13 +98,13 @@ pub ruleset rowing = (rules, row-refused, row_fits, row-added)
 
 -- `add`
 module _ (s : Site) (ms ns : List ℕ) (i position k : ℕ) (rows : List ℕ) {to : Refers} where
-  pub add-missing : k ≤ 1024 → to ≡ Missing → Added s ms ns to i position k rows (Refused 11) rows
+  pub add-missing : k ≤ 1024 → to ≡ Missing → Added s ms ns to i position k rows (Err 11) rows
   add-missing hk g = record { says = λ w f en el eh em. rw g; within = stopped k 11 rows hk }
 
-  pub add_nothing : k ≤ 1024 → to ≡ Nothing → Added s ms ns to i position k rows (Rows k) rows
+  pub add_nothing : k ≤ 1024 → to ≡ Nothing → Added s ms ns to i position k rows (Ok k) rows
   add_nothing hk g = record { says = λ w f en el eh em. rw g; within = same k rows hk }
 
-  pub add-to : {t : Reference} → to ≡ To t → {r : RowCount} {rows' : List ℕ} → Added s ms ns (To t) i position k rows r rows' → Added s ms ns to i position k rows r rows'
+  pub add-to : {t : Reference} → to ≡ To t → {r : Result ℕ ℕ} {rows' : List ℕ} → Added s ms ns (To t) i position k rows r rows' → Added s ms ns to i position k rows r rows'
   add-to g a = rw g a
 
 pub ruleset adding = (rules, add-missing, add_nothing, add-to)

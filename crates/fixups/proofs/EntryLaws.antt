@@ -11,6 +11,7 @@ use lib.Dec.{eqb}
 use lib.ListN.{length, drop}
 use lib.Seq.{drop-drop, length-take-le}
 use borrow.Author.Rules.{rules}
+use Rattle.std.specs.Prelude.{Result, Ok, Err}
 use Rattle.format.specs.Lists.{pick}
 use Rattle.format.specs.Pairs.{Fragment}
 use Rattle.format.specs.Mode.{gives}
@@ -23,8 +24,6 @@ use Rattle.sites.specs.Columns.{fragment_at, fragments_in}
 use Rattle.references.specs.declared.Refers.{Refers}
 use Rattle.references.specs.References as ref
 use Rattle.references.specs.References.{refers_at, refers_in}
-use Rattle.row_count.specs.declared.RowCount.{RowCount}
-use Rattle.row_count.specs.declared.RowCount.TheVariants.{Refused, Rows}
 use Rattle.row_count.specs.Count.{used_by}
 use Rattle.fixups.specs.Next.{Clear}
 use Rattle.fixups.specs.Walk.{site_of, entry_at, told, Within, Added, Made}
@@ -36,7 +35,7 @@ further xs ys a b h e =
     let z : b ≡ a + (b - a) = omega arith in
     ap (λ (n : ℕ). drop n xs) z ∙ (sym (drop-drop (b - a) a xs) ∙ (ap (λ (l : List ℕ). drop (b - a) l) e ∙ (drop-drop (b - a) a ys ∙ ap (λ (n : ℕ). drop n ys) (sym z))))
 
-pub then-within : {k j : ℕ} {r : RowCount} {rows rows' rows'' : List ℕ} → Within k (Rows j) rows rows' → Within j r rows' rows'' → Within k r rows rows''
+pub then-within : {k j : ℕ} {r : Result ℕ ℕ} {rows rows' rows'' : List ℕ} → Within k (Ok j) rows rows' → Within j r rows' rows'' → Within k r rows rows''
 then-within {k} {j} {r} {rows} {rows'} a b = record {
   room = b.room;
   grew = omega (arith, a.grew, b.grew);
@@ -58,7 +57,7 @@ pub record Fixing (ms es xs areas symbols ns : List ℕ) (s : Site) (entry posit
   pub inside : i ≤ s.line.fragments
   pub rest : (place : ℕ) → entry_at ms es xs areas symbols ns s entry position (fixups_in rows k) place
       ≡ fixups_at (site_of areas symbols ns s place) entry position i (from (fragment_at ms es xs) i (s.line.fragments - i)) (fixups_in left j)
-  pub within : Within k (Rows j) rows left
+  pub within : Within k (Ok j) rows left
   pub long : length left ≡ length rows
   pub numbers : s.made ≤ length ns
 
@@ -75,7 +74,7 @@ fix-start ms es xs areas symbols ns s entry position k rows hk hn = record {
 
 module _ {ms es xs areas symbols ns : List ℕ} {s : Site} {entry position k : ℕ} {rows left : List ℕ} {j i : ℕ}
     (w : Fixing ms es xs areas symbols ns s entry position k rows left j i) where
-  pub fix-end : s.line.fragments ≤ i → Made (entry_at ms es xs areas symbols ns s entry position (fixups_in rows k)) k rows (Rows j) left
+  pub fix-end : s.line.fragments ≤ i → Made (entry_at ms es xs areas symbols ns s entry position (fixups_in rows k)) k rows (Ok j) left
   unfolding fixups_at from
   fix-end h = record { says = λ place. let z : s.line.fragments - i ≡ 0 = omega arith in sym (w.rest place ∙ rw z); within = w.within }
 
@@ -86,7 +85,7 @@ module _ {ms es xs areas symbols ns : List ℕ} {s : Site} {entry position k : �
   fix-long h = omega (arith, w.long)
 
   module _ (h : i < s.line.fragments) (to : Refers) (a : (place : ℕ) → ref.told place to ≡ refers_in areas symbols s.filled (fragment_at ms es xs i) entry place)
-      {r : RowCount} {left' : List ℕ} (b : Added s ms ns to i position j left r left') where
+      {r : Result ℕ ℕ} {left' : List ℕ} (b : Added s ms ns to i position j left r left') where
     one : (place : ℕ) → fixup_at (site_of areas symbols ns s place) entry position i (fragment_at ms es xs i) (fixups_in left j) ≡ told place r left'
     unfolding site_of refers_in fragment_at
     one place =
@@ -100,10 +99,10 @@ module _ {ms es xs areas symbols ns : List ℕ} {s : Site} {entry position k : �
         let z : s.line.fragments - i ≡ suc (s.line.fragments - suc i) = omega arith in
         w.rest place ∙ (ap (λ (n : ℕ). fixups_at (site_of areas symbols ns s place) entry position i (from (fragment_at ms es xs) i n) (fixups_in left j)) z ∙ rw (one place))
 
-    pub fix-stop : {x : ℕ} → r ≡ Refused x → Made (entry_at ms es xs areas symbols ns s entry position (fixups_in rows k)) k rows r left'
-    fix-stop g = record { says = λ place. rw g (sym (rw g at (next place))); within = then-within w.within b.within }
+    pub fix-stop : {x : ℕ} → r ≡ Err x → Made (entry_at ms es xs areas symbols ns s entry position (fixups_in rows k)) k rows (Err x) left'
+    fix-stop g = record { says = λ place. sym (rw g at (next place)); within = rw g at (then-within w.within b.within) }
 
-    pub fix-more : {x : ℕ} → r ≡ Rows x → length left' ≡ length left → Fixing ms es xs areas symbols ns s entry position k rows left' x (i + 1)
+    pub fix-more : {x : ℕ} → r ≡ Ok x → length left' ≡ length left → Fixing ms es xs areas symbols ns s entry position k rows left' x (i + 1)
     fix-more g l = record {
       inside = omega arith;
       rest = λ place. rw add-one (rw g at (next place));
@@ -116,7 +115,7 @@ pub ruleset entries = (rules, fix-start, fix-end, fix-room, fix-long, fix-stop, 
 
 -- `entry_rows`: nothing to do below the next entry at which a fragment can give a fixup
 pub entry-none : (ms es xs areas symbols ns : List ℕ) (s : Site) (entry position k : ℕ) (rows : List ℕ) {t : ℕ} → Clear ms es s.line.fragments entry t → entry < t → k ≤ 1024
-    → Made (entry_at ms es xs areas symbols ns s entry position (fixups_in rows k)) k rows (Rows k) rows
+    → Made (entry_at ms es xs areas symbols ns s entry position (fixups_in rows k)) k rows (Ok k) rows
 unfolding entry_at
 entry-none ms es xs areas symbols ns s entry position k rows n h hk = record {
   says = λ place. sym (none_here (site_of areas symbols ns s place) entry position ms es xs s.line.fragments (fixups_in rows k) n h);

@@ -12,6 +12,7 @@ use lib.Dec.{eqb}
 use lib.ListN.{length, get_or}
 use borrow.Author.Rules.{rules}
 use borrow.Author.Tests.{lt-ltb, le-ltb}
+use Rattle.std.specs.Prelude.{Result, Ok, Err}
 use Rattle.format.specs.Lists.{pick}
 use Rattle.format.specs.Pairs.{Fragment}
 use Rattle.format.specs.Outcome.{fine, and_then}
@@ -22,8 +23,6 @@ use Rattle.laws.proofs.Areas.{one_at_most}
 use Rattle.sites.specs.declared.Site.{Site}
 use Rattle.sites.specs.Columns.{fragments_in}
 use Rattle.sites.specs.Site.{Ready}
-use Rattle.row_count.specs.declared.RowCount.{RowCount}
-use Rattle.row_count.specs.declared.RowCount.TheVariants.{Refused, Rows}
 use Rattle.fixups.specs.Next.{Clear}
 use Rattle.fixups.specs.Walk.{site_of, fixups_walk, entry_at, line_at, told, Within, Made}
 use Rattle.fixups.proofs.AddLaws.{same}
@@ -36,7 +35,7 @@ pub record Walking (ms es xs areas symbols ns : List ℕ) (s : Site) (keeps : Li
   pub inside : e ≤ n
   pub rest : (place : ℕ) → line_at ms es xs areas symbols ns s keeps (fixups_in rows s.filled.fixups) place
       ≡ fixups_walk (site_of areas symbols ns s place) s.size (fragments_in ms es xs s.line.fragments) keeps (n - e) e p (fixups_in left k)
-  pub within : Within s.filled.fixups (Rows k) rows left
+  pub within : Within s.filled.fixups (Ok k) rows left
   pub long : length left ≡ length rows
   pub room : 9216 ≤ length rows
   pub numbers : s.made ≤ length ns
@@ -65,7 +64,7 @@ out_of w size fs keeps (suc m) e p xs h = rw (le-ltb p size h)
 
 module _ {ms es xs areas symbols ns : List ℕ} {s : Site} {keeps : List ℕ} {n : ℕ} {rows left : List ℕ} {k e p t : ℕ}
     (w : Walking ms es xs areas symbols ns s keeps n rows left k e p t) where
-  pub walk_end : n ≤ t → Made (line_at ms es xs areas symbols ns s keeps (fixups_in rows s.filled.fixups)) s.filled.fixups rows (Rows k) left
+  pub walk_end : n ≤ t → Made (line_at ms es xs areas symbols ns s keeps (fixups_in rows s.filled.fixups)) s.filled.fixups rows (Ok k) left
   walk_end h = record {
     says = λ place. sym (w.rest place ∙ none_left (site_of areas symbols ns s place) s.size ms es xs s.line.fragments keeps (n - e) e p (fixups_in left k) w.clear (omega (arith, w.inside)));
     within = w.within;
@@ -95,13 +94,13 @@ module _ {ms es xs areas symbols ns : List ℕ} {s : Site} {keeps : List ℕ} {n
   pub grow-fits : p < s.size → (b : Bool) {y : ℕ} → y ≡ pick b 1 0 → Fits w32 (p + y)
   grow-fits h b ey = record { fits = omega (arith, w.ready.inside, one_at_most b) }
 
-  pub walk-out : s.size ≤ p → Made (line_at ms es xs areas symbols ns s keeps (fixups_in rows s.filled.fixups)) s.filled.fixups rows (Rows k) left
+  pub walk-out : s.size ≤ p → Made (line_at ms es xs areas symbols ns s keeps (fixups_in rows s.filled.fixups)) s.filled.fixups rows (Ok k) left
   walk-out l = record {
     says = λ place. sym (w.rest place ∙ out_of (site_of areas symbols ns s place) s.size (fragments_in ms es xs s.line.fragments) keeps (n - e) e p (fixups_in left k) l);
     within = w.within;
   }
 
-  module _ (h : t < n) (l : p < s.size) {r : RowCount} {left' : List ℕ} (a : Made (entry_at ms es xs areas symbols ns s e p (fixups_in left k)) k left r left') where
+  module _ (h : t < n) (l : p < s.size) {r : Result ℕ ℕ} {left' : List ℕ} (a : Made (entry_at ms es xs areas symbols ns s e p (fixups_in left k)) k left r left') where
     onward : (place : ℕ) → line_at ms es xs areas symbols ns s keeps (fixups_in rows s.filled.fixups) place
         ≡ and_then (told place r left') (λ ys. fixups_walk (site_of areas symbols ns s place) s.size (fragments_in ms es xs s.line.fragments) keeps (n - suc e) (suc e) (p + pick (eqb (get_or keeps e 0) 1) 1 0) ys)
     unfolding fixups_walk entry_at
@@ -110,10 +109,10 @@ module _ {ms es xs areas symbols ns : List ℕ} {s : Site} {keeps : List ℕ} {n
         w.rest place ∙ (ap (λ (y : ℕ). fixups_walk (site_of areas symbols ns s place) s.size (fragments_in ms es xs s.line.fragments) keeps y e p (fixups_in left k)) z
         ∙ rw (lt-ltb p s.size l, ← a.says place))
 
-    pub walk-stop : {x : ℕ} → r ≡ Refused x → Made (line_at ms es xs areas symbols ns s keeps (fixups_in rows s.filled.fixups)) s.filled.fixups rows r left'
-    walk-stop g = record { says = λ place. rw g (sym (rw g at (onward place))); within = then-within w.within a.within }
+    pub walk-stop : {x : ℕ} → r ≡ Err x → Made (line_at ms es xs areas symbols ns s keeps (fixups_in rows s.filled.fixups)) s.filled.fixups rows (Err x) left'
+    walk-stop g = record { says = λ place. sym (rw g at (onward place)); within = rw g at (then-within w.within a.within) }
 
-    pub walk_more : {x : ℕ} → r ≡ Rows x → length left' ≡ length left → {y : ℕ} → y ≡ pick (eqb (get_or keeps e 0) 1) 1 0
+    pub walk_more : {x : ℕ} → r ≡ Ok x → length left' ≡ length left → {y : ℕ} → y ≡ pick (eqb (get_or keeps e 0) 1) 1 0
         → {u : ℕ} → ((d : ℕ) → d ≤ e + 1 → Clear ms es s.line.fragments d t → Clear ms es s.line.fragments (e + 1) u)
         → Walking ms es xs areas symbols ns s keeps n rows left' x (e + 1) (p + y) u
     walk_more {x} g q ey f = record {

@@ -11,6 +11,9 @@ use lib.ListN.{length, get_or, length-append}
 use lib.Seq.{length-take-le}
 use borrow.Author.Rules.{rules}
 use borrow.Author.Tests.{le-leb, lt-leb}
+use Rattle.std.specs.Prelude.{Result, Ok, Err}
+use Rattle.checks.specs.declared.check.Fault.{Fault}
+use Rattle.checks.specs.declared.check.Fault.TheVariants as fault
 use Rattle.format.specs.Lists.{pick}
 use Rattle.format.specs.Pairs.{Fragment}
 use Rattle.format.specs.Outcome.{Outcome, fine, refused, and_then}
@@ -23,14 +26,8 @@ use Rattle.sites.specs.Columns.{fragments_in}
 use Rattle.sites.specs.Site.{Ready, is_ready, made_at}
 use Rattle.sites.proofs.Fitting.{ready_by}
 use Rattle.references.specs.References.{refers_at}
-use Rattle.row_count.specs.declared.RowCount.{RowCount}
-use Rattle.row_count.specs.declared.RowCount.TheVariants as fixed
-use Rattle.checks.specs.declared.check.Checked.{Checked}
-use Rattle.checks.specs.declared.check.Checked.TheVariants as checked
 use Rattle.row_count.specs.Count.{count_one, count_to}
 use Rattle.checks.specs.Check.{counts_at, count_walk, count_line, is_fine, verdict, Judged}
-use Rattle.fixups.specs.declared.pass.Rowed.{Rowed}
-use Rattle.fixups.specs.declared.pass.Rowed.TheVariants.{Misfit, Refused, Rows}
 use Rattle.fixups.specs.Walk.{site_of, fixups_walk, line_at, told, Made}
 use Rattle.fixups.specs.Pass.{rowed_by, PairRows}
 use Rattle.fixups.proofs.EntryLaws.{at-refers}
@@ -87,10 +84,10 @@ many-walk w size fs keeps (suc m) entry position xs =
 
 -- ------------------------------------------------------------------ `rowed`, `pair_rows`
 
-pub rowed-refused : {r : RowCount} {n : ℕ} → r ≡ fixed.Refused n → Refused n ≡ rowed_by r
+pub rowed-refused : {r : Result ℕ ℕ} {n : ℕ} → r ≡ Err n → ◌≡◌ {A = Result ℕ Fault} (Err (fault.Refused n)) (rowed_by r)
 rowed-refused g = rw g
 
-pub rowed-rows : {r : RowCount} {k : ℕ} → r ≡ fixed.Rows k → Rows k ≡ rowed_by r
+pub rowed-rows : {r : Result ℕ ℕ} {k : ℕ} → r ≡ Ok k → ◌≡◌ {A = Result ℕ Fault} (Ok k) (rowed_by r)
 rowed-rows g = rw g
 
 pub ruleset rowed = (rules, rowed-refused, rowed-rows)
@@ -117,7 +114,7 @@ told_none true q h = let z : ◌≡◌ {A = ℕ} 0 1 = cc in absurd (omega arith
 told_none false q h = refl
 
 -- a check that passed says that the site is within the bounds
-module _ {s : at.Site} {o : ℕ → Outcome ℕ} {c : Checked} (a : Judged s o c) (g : c ≡ checked.Passed) where
+module _ {s : at.Site} {o : ℕ → Outcome ℕ} {c : Result (Unit {0}) Fault} (a : Judged s o c) {u : Unit {0}} (g : c ≡ Ok u) where
   pub passed-ready : Ready s
   passed-ready = ready_by s (told-fits (is_ready s) (rw g at (a.says 0))).0
 
@@ -132,7 +129,7 @@ module _ (ms es xs areas symbols ns : List ℕ) (s : at.Site) (keeps rows : List
       many-walk (site_of areas symbols ns s place) s.size (fragments_in ms es xs s.line.fragments) keeps (s.line.width + s.line.bytes) 0 s.line.address (fixups_in rows s.filled.fixups)
       ∙ rw (length-take-le s.made ns hn, count-rows rows s.filled.fixups)
 
-  pub rows-unlent : length rows < 9216 → PairRows (is_ready s && leb 9216 (length rows)) (line_at ms es xs areas symbols ns s keeps (fixups_in rows s.filled.fixups)) rows Misfit rows
+  pub rows-unlent : length rows < 9216 → PairRows (is_ready s && leb 9216 (length rows)) (line_at ms es xs areas symbols ns s keeps (fixups_in rows s.filled.fixups)) rows (Err fault.Misfit) rows
   rows-unlent h = record {
     says = λ place. rw (lt-leb 9216 (length rows) h, and-false (is_ready s));
     few = omega arith;
@@ -140,16 +137,16 @@ module _ (ms es xs areas symbols ns : List ℕ) (s : at.Site) (keeps rows : List
     same = λ e. refl;
   }
 
-  module _ (l : 9216 ≤ length rows) (hn : 64 ≤ length ns) {c : Checked} (a : Judged s (count_line ms es xs areas symbols s keeps) c) where
+  module _ (l : 9216 ≤ length rows) (hn : 64 ≤ length ns) {c : Result (Unit {0}) Fault} (a : Judged s (count_line ms es xs areas symbols s keeps) c) where
     room : leb 9216 (length rows) ≡ true
     room = le-leb 9216 (length rows) l
 
-    pub rows-misfit : c ≡ checked.Misfit → PairRows (is_ready s && leb 9216 (length rows)) (line_at ms es xs areas symbols ns s keeps (fixups_in rows s.filled.fixups)) rows Misfit rows
+    rows-misfit : c ≡ Err fault.Misfit → PairRows (is_ready s && leb 9216 (length rows)) (line_at ms es xs areas symbols ns s keeps (fixups_in rows s.filled.fixups)) rows (Err fault.Misfit) rows
     rows-misfit g =
         let f : is_ready s ≡ false = told_none (is_ready s) _ (rw g at (a.says 0)) in
         record { says = λ place. rw f; few = omega arith; rest = refl; same = λ e. refl }
 
-    module _ {x : ℕ} (g : c ≡ checked.Refused x) where
+    module _ {x : ℕ} (g : c ≡ Err (fault.Refused x)) where
       refusal : (place : ℕ) → (is_ready s ≡ true) × (verdict (count_line ms es xs areas symbols s keeps place) ≡ refused x place)
       refusal place = told-fits (is_ready s) (rw g at (a.says place))
 
@@ -158,37 +155,41 @@ module _ (ms es xs areas symbols ns : List ℕ) (s : at.Site) (keeps rows : List
           let r : Ready s = ready_by s (refusal place).0 in
           many-refused _ x place (line-many (omega (arith, r.numbers)) place ∙ verdict-refused _ x place (refusal place).1)
 
-      pub rows-refused : PairRows (is_ready s && leb 9216 (length rows)) (line_at ms es xs areas symbols ns s keeps (fixups_in rows s.filled.fixups)) rows (Refused x) rows
+      rows-refused : PairRows (is_ready s && leb 9216 (length rows)) (line_at ms es xs areas symbols ns s keeps (fixups_in rows s.filled.fixups)) rows (Err (fault.Refused x)) rows
       rows-refused = record { says = λ place. rw ((refusal 0).0, room) (ap some (sym (refused-here place))); few = omega arith; rest = refl; same = λ e. refl }
 
-    module _ (g : c ≡ checked.Passed) where
+    pub rows-fault : (f : Fault) → c ≡ Err f → PairRows (is_ready s && leb 9216 (length rows)) (line_at ms es xs areas symbols ns s keeps (fixups_in rows s.filled.fixups)) rows (Err f) rows
+    rows-fault fault.Misfit g = rows-misfit g
+    rows-fault (fault.Refused x) g = rows-refused g
+
+    module _ {u : Unit {0}} (g : c ≡ Ok u) where
       passes : (place : ℕ) → (is_ready s ≡ true) × (verdict (count_line ms es xs areas symbols s keeps place) ≡ fine 0)
       passes place = told-fits (is_ready s) (rw g at (a.says place))
 
       -- the walk refuses nothing
-      never : (x : ℕ) (left : List ℕ) → told 0 (fixed.Refused x) left ≡ line_at ms es xs areas symbols ns s keeps (fixups_in rows s.filled.fixups) 0 → ⊥
+      never : (x : ℕ) (left : List ℕ) → told 0 (Err x) left ≡ line_at ms es xs areas symbols ns s keeps (fixups_in rows s.filled.fixups) 0 → ⊥
       never x left p =
           let z : refused x 0 ≡ count_line ms es xs areas symbols s keeps 0 = ap many p ∙ line-many (passed-numbers a g ns hn) 0 in
           unlike x 0 0 (ap verdict z ∙ (passes 0).1)
 
-      made_by : (r : RowCount) {rows' : List ℕ} → Made (line_at ms es xs areas symbols ns s keeps (fixups_in rows s.filled.fixups)) s.filled.fixups rows r rows'
+      made_by : (r : Result ℕ ℕ) {rows' : List ℕ} → Made (line_at ms es xs areas symbols ns s keeps (fixups_in rows s.filled.fixups)) s.filled.fixups rows r rows'
           → PairRows true (line_at ms es xs areas symbols ns s keeps (fixups_in rows s.filled.fixups)) rows (rowed_by r) rows'
-      made_by (fixed.Refused x) {rows'} m = absurd (never x rows' (m.says 0))
-      made_by (fixed.Rows k) m = record {
+      made_by (Err x) {rows'} m = absurd (never x rows' (m.says 0))
+      made_by (Ok k) m = record {
         says = λ place. ap some (m.says place);
         few = m.within.room;
         rest = m.within.rest;
         same = λ d. let z : ◌≡◌ {A = ℕ} 0 1 = cc in absurd (omega arith);
       }
 
-      pub rows_made : {r : RowCount} {rows' : List ℕ} → Made (line_at ms es xs areas symbols ns s keeps (fixups_in rows s.filled.fixups)) s.filled.fixups rows r rows'
-          → {q : Rowed} → q ≡ rowed_by r → PairRows (is_ready s && leb 9216 (length rows)) (line_at ms es xs areas symbols ns s keeps (fixups_in rows s.filled.fixups)) rows q rows'
+      pub rows_made : {r : Result ℕ ℕ} {rows' : List ℕ} → Made (line_at ms es xs areas symbols ns s keeps (fixups_in rows s.filled.fixups)) s.filled.fixups rows r rows'
+          → {q : Result ℕ Fault} → q ≡ rowed_by r → PairRows (is_ready s && leb 9216 (length rows)) (line_at ms es xs areas symbols ns s keeps (fixups_in rows s.filled.fixups)) rows q rows'
       rows_made {r} m eq = rw (eq, (passes 0).0, room) (made_by r m)
 
-pub ruleset passing = (rules, rows-unlent, rows-misfit, rows-refused, passed-ready, passed-numbers, rows_made)
+pub ruleset passing = (rules, rows-unlent, rows-fault, passed-ready, passed-numbers, rows_made)
 
 -- `pair_rows`
-pub rows-at : (ms es xs areas symbols ns : List ℕ) (s : at.Site) (n : ℕ) (keeps rows : List ℕ) {here : at.Site} → here ≡ made_at s n → {r : Rowed} {rows' : List ℕ}
+pub rows-at : (ms es xs areas symbols ns : List ℕ) (s : at.Site) (n : ℕ) (keeps rows : List ℕ) {here : at.Site} → here ≡ made_at s n → {r : Result ℕ Fault} {rows' : List ℕ}
     → PairRows (is_ready here && leb 9216 (length rows)) (line_at ms es xs areas symbols ns here keeps (fixups_in rows here.filled.fixups)) rows r rows'
     → PairRows (is_ready (made_at s n) && leb 9216 (length rows)) (line_at ms es xs areas symbols ns (made_at s n) keeps (fixups_in rows s.filled.fixups)) rows r rows'
 rows-at ms es xs areas symbols ns s n keeps rows e a = rw e at a

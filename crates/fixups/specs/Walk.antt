@@ -1,6 +1,6 @@
 -- What the walk for fixup rows answers, in the definition's words.
 -- Assumes nothing.
-use Rattle.std.specs.Prelude.{ℕ, zero, suc, ◌+◌, ◌*◌, ◌≤◌, ◌≡◌, List, [], ◌++◌, ◌∷◌, eqb, ltb, length, take, drop, get_or}
+use Rattle.std.specs.Prelude.{ℕ, zero, suc, ◌+◌, ◌*◌, ◌≤◌, ◌≡◌, List, [], ◌++◌, ◌∷◌, eqb, ltb, length, take, drop, get_or, Result, Ok, Err}
 use Rattle.format.specs.Lists.{pick}
 use Rattle.format.specs.Pairs.{Fragment}
 use Rattle.format.specs.Outcome.{Outcome, fine, refused, and_then}
@@ -8,8 +8,6 @@ use Rattle.format.specs.Fixups.{Fixup, fixup_to, fixups_at}
 use Rattle.format.specs.Fixups as defs
 use Rattle.laws.specs.Rows.{fixups_in}
 use Rattle.sites.specs.declared.Site.{Site}
-use Rattle.row_count.specs.declared.RowCount.{RowCount}
-use Rattle.row_count.specs.declared.RowCount.TheVariants.{Refused, Rows}
 use Rattle.references.specs.declared.Reference.{Reference}
 use Rattle.references.specs.declared.Refers.{Refers}
 use Rattle.references.specs.declared.Refers.TheVariants.{To}
@@ -40,12 +38,12 @@ line_at ms es xs areas symbols ns s keeps fs place =
     fixups_walk (site_of areas symbols ns s place) s.size (fragments_in ms es xs s.line.fragments) keeps (s.line.width + s.line.bytes) 0 s.line.address fs
 
 -- what an answer says, with the rows as they are then
-abbrev pub told : (place : ℕ) → RowCount → List ℕ → Outcome (List Fixup)
-told place (Refused n) rows = refused n place
-told place (Rows k) rows = fine (fixups_in rows k)
+abbrev pub told : (place : ℕ) → Result ℕ ℕ → List ℕ → Outcome (List Fixup)
+told place (Err n) rows = refused n place
+told place (Ok k) rows = fine (fixups_in rows k)
 
 -- no row behind the used ones is touched
-pub record Within (k : ℕ) (r : RowCount) (rows rows' : List ℕ) : Type 0 where
+pub record Within (k : ℕ) (r : Result ℕ ℕ) (rows rows' : List ℕ) : Type 0 where
   pub room : used_by r ≤ 1024
   pub grew : k ≤ used_by r
   pub rest : drop (9 * used_by r) rows' ≡ drop (9 * used_by r) rows
@@ -62,12 +60,12 @@ pub record OneRow (k : ℕ) (x : Fixup) (rows rows' : List ℕ) : Type 0 where
   pub rest : drop (9 * suc k) rows' ≡ drop (9 * suc k) rows
 
 -- a row for what the i-th fragment refers to: 11, 12, 13, no row, or one
-pub record Added (s : Site) (ms ns : List ℕ) (to : Refers) (i position k : ℕ) (rows : List ℕ) (r : RowCount) (rows' : List ℕ) : Type 0 where
+pub record Added (s : Site) (ms ns : List ℕ) (to : Refers) (i position k : ℕ) (rows : List ℕ) (r : Result ℕ ℕ) (rows' : List ℕ) : Type 0 where
   pub says : (w : defs.Site) (f : Fragment) → w.numbers ≡ take s.made ns → length w.numbers ≡ s.made → w.home ≡ s.id → f.mode ≡ get_or ms i 0
       → told w.place r rows' ≡ and_then (ref.told w.place to) (λ x. fixup_to w i position f (fixups_in rows k) x)
   pub within : Within k r rows rows'
 
 -- rows made for an entry, or for a line: what the definition says at each place
-pub record Made (o : ℕ → Outcome (List Fixup)) (k : ℕ) (rows : List ℕ) (r : RowCount) (rows' : List ℕ) : Type 0 where
+pub record Made (o : ℕ → Outcome (List Fixup)) (k : ℕ) (rows : List ℕ) (r : Result ℕ ℕ) (rows' : List ℕ) : Type 0 where
   pub says : (place : ℕ) → told place r rows' ≡ o place
   pub within : Within k r rows rows'

@@ -6,4 +6,4 @@ mod pass;
 mod row;
 mod walk;
 
-pub use pass::{Rowed, pair_rows};
+pub use pass::pair_rows;

@@ -9,12 +9,7 @@ use classes::gives_fixup;
 fn nearer(x: u32, e: u32, r: u32) -> u32
     ensures { Nearer x e r result }
 {
-    if e <= x {
-        if x < r {
-            return x;
-        }
-    }
-    r
+    if e <= x && x < r { x } else { r }
 }
 
 // The same with the entry of the i-th fragment, if its mode can give a fixup.
@@ -32,10 +27,8 @@ pub(crate) fn next_at(ms: &[u32], es: &[u32], c: usize, e: u32) -> u32
     ensures { Clear ms.now es.now c e result }
 {
     let mut r: u32 = 4294967295;
-    let mut i: usize = 0;
-    while i < c {
+    for i in 0..c {
         r = nearer_at(ms, es, i, e, r);
-        i += 1;
     }
     r
 }

@@ -6,26 +6,17 @@ ghost use Rattle.fixups.specs.Walk.{line_at};
 ghost use Rattle.fixups.specs.Pass.{rowed_by, PairRows};
 
 use crate::walk::fixup_rows;
-use checks::{Checked, check_pair};
+use checks::{Fault, check_pair};
 use rooms::FIXUP_ROOM;
-use row_count::RowCount;
 use sites::Site;
 
-// That the numbers do not fit, a refusal's number, or how many fixup rows there are.
-#[derive(Clone, Copy)]
-pub enum Rowed {
-    Misfit,
-    Refused(u32),
-    Rows(usize),
-}
-
 // The walk's answer, as the pair's.
-fn answered(r: RowCount) -> Rowed
+fn answered(r: Result<usize, u32>) -> Result<usize, Fault>
     ensures { result ≡ rowed_by r }
 {
     match r {
-        RowCount::Refused(n) => Rowed::Refused(n),
-        RowCount::Rows(k) => Rowed::Rows(k),
+        Err(n) => Err(Fault::Refused(n)),
+        Ok(k) => Ok(k),
     }
 }
 
@@ -33,19 +24,10 @@ fn answered(r: RowCount) -> Rowed
 fn with_numbers(site: Site, n: usize) -> Site
     ensures { result ≡ made_at site n }
 {
-    let line = site.line;
-    let filled = site.filled;
-    Site {
-        line: line,
-        filled: filled,
-        id: site.id,
-        start: site.start,
-        size: site.size,
-        made: n,
-    }
+    Site { made: n, ..site }
 }
 
-// The fixup rows of a pair; or 11 to 13, or that the site is not within the bounds or the rows have no room, and no row is written.
+// How many fixup rows there are with a pair's; or 11 to 13, or that the site is not within the bounds or the rows have no room, and no row is written.
 fn checked_rows(
     site: Site,
     ms: &[u32],
@@ -56,18 +38,15 @@ fn checked_rows(
     ns: &[u32],
     wk: &[u8],
     rows: &mut [u32],
-) -> Rowed
+) -> Result<usize, Fault>
     requires { 64 ≤ length ns.now }
     ensures { PairRows (is_ready site && leb 9216 (length rows.old)) (line_at ms.now es.now xs.now areas.now symbols.now ns.now site wk.now (fixups_in rows.old site.filled.fixups)) rows.old result rows.new }
 {
     if rows.len() < FIXUP_ROOM {
-        return Rowed::Misfit;
+        return Err(Fault::Misfit);
     }
-    match check_pair(site, ms, es, xs, areas, symbols, wk) {
-        Checked::Misfit => Rowed::Misfit,
-        Checked::Refused(x) => Rowed::Refused(x),
-        Checked::Passed => answered(fixup_rows(site, ms, es, xs, areas, symbols, ns, wk, rows)),
-    }
+    check_pair(site, ms, es, xs, areas, symbols, wk)?;
+    answered(fixup_rows(site, ms, es, xs, areas, symbols, ns, wk, rows))
 }
 
 // The same for a pair whose fragments made n numbers.
@@ -82,7 +61,7 @@ pub fn pair_rows(
     ns: &[u32; 64],
     wk: &[u8; 260],
     rows: &mut [u32],
-) -> Rowed
+) -> Result<usize, Fault>
     ensures { PairRows (is_ready (made_at site n) && leb 9216 (length rows.old)) (line_at ms.now es.now xs.now areas.now symbols.now ns.now (made_at site n) wk.now (fixups_in rows.old site.filled.fixups)) rows.old result rows.new }
 {
     let here = with_numbers(site, n);

@@ -5,7 +5,7 @@ ghost use Rattle.fixups.specs.Walk.{to_reference, Added};
 use fixup_row::put_row;
 use references::{Reference, Refers};
 use rooms::FIXUP_WIDTH;
-use row_count::{RowCount, one_more};
+use row_count::one_more;
 use sites::Site;
 
 // The row of the i-th fragment: 12, 13, or one row more.
@@ -18,16 +18,13 @@ fn write_row(
     p: u32,
     rows: &mut [u32],
     k: usize,
-) -> RowCount
+) -> Result<usize, u32>
     requires { (k ≤ 1024) × (9216 ≤ length rows.old) }
     ensures { Added site ms.now ns.now (to_reference t) i p k rows.old result rows.new }
 {
-    let r = one_more(i, site.made, k);
-    let RowCount::Rows(x) = r else {
-        return r;
-    };
+    let x = one_more(i, site.made, k)?;
     put_row(rows, FIXUP_WIDTH * k, site, ms, ns, t, i, p);
-    RowCount::Rows(x)
+    Ok(x)
 }
 
 // A row for what the i-th fragment refers to, if there is a reference.
@@ -40,13 +37,13 @@ pub(crate) fn add(
     p: u32,
     rows: &mut [u32],
     k: usize,
-) -> RowCount
+) -> Result<usize, u32>
     requires { (k ≤ 1024) × (9216 ≤ length rows.old) }
     ensures { Added site ms.now ns.now to i p k rows.old result rows.new }
 {
     match to {
-        Refers::Missing => RowCount::Refused(11),
-        Refers::Nothing => RowCount::Rows(k),
+        Refers::Missing => Err(11),
+        Refers::Nothing => Ok(k),
         Refers::To(t) => write_row(site, ms, ns, t, i, p, rows, k),
     }
 }

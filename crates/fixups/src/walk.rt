@@ -8,7 +8,7 @@ ghost use Rattle.fixups.specs.Walk.{entry_at, line_at, Made};
 use crate::next::{next_at, next_from};
 use crate::row::add;
 use references::refers_at;
-use row_count::{RowCount, grows};
+use row_count::grows;
 use sites::Site;
 
 // The fragments of the entry e, in order.
@@ -24,23 +24,17 @@ fn fixups_at(
     p: u32,
     rows: &mut [u32],
     k: usize,
-) -> RowCount
+) -> Result<usize, u32>
     requires ready { Ready site }
     requires made_in_bounds { (site.made ≤ length ns.now) × (k ≤ 1024) × (9216 ≤ length rows.old) }
     ensures { Made (entry_at ms.now es.now xs.now areas.now symbols.now ns.now site e p (fixups_in rows.old k)) k rows.old result rows.new }
 {
     let mut j = k;
-    let mut i: usize = 0;
-    while i < site.line.fragments {
+    for i in 0..site.line.fragments {
         let to = refers_at(ms, es, xs, areas, symbols, site.filled, i, e);
-        let r = add(site, ms, ns, to, i, p, rows, j);
-        let RowCount::Rows(x) = r else {
-            return r;
-        };
-        j = x;
-        i += 1;
+        j = add(site, ms, ns, to, i, p, rows, j)?;
     }
-    RowCount::Rows(j)
+    Ok(j)
 }
 
 // The same, and nothing to do below next, where no fragment gives a fixup.
@@ -57,14 +51,14 @@ fn entry_rows(
     p: u32,
     rows: &mut [u32],
     k: usize,
-) -> RowCount
+) -> Result<usize, u32>
     requires ready { Ready site }
     requires clear { Clear ms.now es.now site.line.fragments e next }
     requires made_in_bounds { (site.made ≤ length ns.now) × (k ≤ 1024) × (9216 ≤ length rows.old) }
     ensures { Made (entry_at ms.now es.now xs.now areas.now symbols.now ns.now site e p (fixups_in rows.old k)) k rows.old result rows.new }
 {
     if e < next {
-        return RowCount::Rows(k);
+        return Ok(k);
     }
     fixups_at(site, ms, es, xs, areas, symbols, ns, e, p, rows, k)
 }
@@ -80,7 +74,7 @@ pub(crate) fn fixup_rows(
     ns: &[u32],
     wk: &[u8],
     rows: &mut [u32],
-) -> RowCount
+) -> Result<usize, u32>
     requires ready { Ready site }
     requires made_in_bounds { (site.made ≤ length ns.now) × (9216 ≤ length rows.old) }
     ensures { Made (line_at ms.now es.now xs.now areas.now symbols.now ns.now site wk.now (fixups_in rows.old site.filled.fixups)) site.filled.fixups rows.old result rows.new }
@@ -92,16 +86,12 @@ pub(crate) fn fixup_rows(
     let mut next = next_at(ms, es, site.line.fragments, 0);
     while next < n {
         if site.size <= p {
-            return RowCount::Rows(k);
+            return Ok(k);
         }
-        let r = entry_rows(site, ms, es, xs, areas, symbols, ns, next, e, p, rows, k);
-        let RowCount::Rows(x) = r else {
-            return r;
-        };
+        k = entry_rows(site, ms, es, xs, areas, symbols, ns, next, e, p, rows, k)?;
         p += grows(wk, e);
-        k = x;
         e += 1;
         next = next_from(ms, es, site.line.fragments, next, e);
     }
-    RowCount::Rows(k)
+    Ok(k)
 }

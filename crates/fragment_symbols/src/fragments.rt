@@ -43,12 +43,10 @@ fn refers_to(fragments: &[u32], j: usize, i: usize) -> bool
 pub fn referring(fragments: &[u32], n: usize, j: usize) -> usize
     ensures { result ≡ first_of (refers_to fragments.now j) n }
 {
-    let mut i = 0;
-    while i < n {
+    for i in 0..n {
         if refers_to(fragments, j, i) {
             return i;
         }
-        i += 1;
     }
-    i
+    n
 }

@@ -1,18 +1,20 @@
 -- The answers about fragments: what the definition reads, counted in the answer and stored in what was lent.
 -- Assumes nothing.
-use Rattle.std.specs.Prelude.{ℕ, ◌≡◌, Bool, List, map, length}
+use Rattle.std.specs.Prelude.{ℕ, ◌≡◌, Bool, List, map, length, Result}
 use Rattle.std.proofs.lemmas.List.Edits.{sets}
-use Rattle.format.specs.Got.{Got, is, isnt, many}
+use Rattle.format.specs.Got.{Got, many}
 use Rattle.lists.specs.Many.{Ran}
 use Rattle.lists.specs.declared.Run.{Run}
 use Rattle.format.specs.Pairs as the
-use Rattle.fragments.specs.declared.fragments.FragmentAt.{FragmentAt}
-use Rattle.fragments.specs.declared.fragments.FragmentAt.TheVariants.{Fragment, NoFragment}
+use Rattle.numbers.specs.Told.{told_as}
+use Rattle.numbers.specs.declared.Halt.{Halt}
+use Rattle.numbers.specs.declared.Read.{Read}
+use Rattle.usual_fragment.specs.Usual.{seen}
+use Rattle.usual_fragment.specs.declared.Fragment.{Fragment}
 
 -- what the code answers about a fragment
-abbrev pub told_fragment : FragmentAt → Got the.Fragment
-told_fragment (Fragment m e i n) = is (record { mode = m; entry = e; index = i }) n
-told_fragment (NoFragment r p) = isnt r p
+abbrev pub told_fragment : Result (Read Fragment) Halt → Got the.Fragment
+told_fragment r = told_as seen r
 
 -- the columns of fragments
 abbrev pub modes : List the.Fragment → List ℕ

@@ -4,4 +4,5 @@
 
 mod fragments;
 
-pub use fragments::{FragmentAt, fragment_at, next_index, parse_reloc_frag};
+pub use fragments::{fragment_at, next_index, parse_reloc_frag};
+pub use usual_fragment::Fragment;

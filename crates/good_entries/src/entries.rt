@@ -12,12 +12,10 @@ use symbol_rows::symbol_name;
 pub fn areas_good(text: &[u8], areas: &[u32], n: usize) -> bool
     ensures { result ≡ all (good_area text.now areas.now) 0 n }
 {
-    let mut i = 0;
-    while i < n {
+    for i in 0..n {
         if !name_good(area_name(text, areas, i)) {
             return false;
         }
-        i += 1;
     }
     true
 }
@@ -27,8 +25,7 @@ pub fn symbols_good(text: &[u8], areas: usize, symbols: &[u32], n: usize) -> boo
     ensures { result ≡ good_symbols text.now areas symbols.now 0 0 n }
 {
     let mut k = 0;
-    let mut j = 0;
-    while j < n {
+    for j in 0..n {
         let c = wide(symbol_cell(symbols, j, 4));
         if c < k {
             return false;
@@ -37,7 +34,6 @@ pub fn symbols_good(text: &[u8], areas: usize, symbols: &[u32], n: usize) -> boo
             return false;
         }
         k = c;
-        j += 1;
     }
     k <= areas
 }

@@ -38,14 +38,10 @@ module _ (b : ℕ) where
     unfolding good_byte is_name_byte is_white is_blank is_cr_or_lf
     byte-13 e = rw e
 
-    pub byte-10 : b ≡ 10 → false ≡ good_byte b
-    unfolding good_byte is_name_byte is_white is_blank is_cr_or_lf
-    byte-10 e = rw e
+    pub byte-10 : (b ≡ 32 → ⊥) → (b ≡ 9 → ⊥) → (b ≡ 13 → ⊥) → not (eqb b 10) ≡ good_byte b
+    byte-10 e f g = white false false false (eqb b 10) (ne_eqb b 32 e) (ne_eqb b 9 f) (ne_eqb b 13 g) refl
 
-    pub byte-fine : (b ≡ 32 → ⊥) → (b ≡ 9 → ⊥) → (b ≡ 13 → ⊥) → (b ≡ 10 → ⊥) → true ≡ good_byte b
-    byte-fine e f g k = white false false false false (ne_eqb b 32 e) (ne_eqb b 9 f) (ne_eqb b 13 g) (ne_eqb b 10 k)
-
-pub ruleset bytes = (rules, byte_high, byte-32, byte-9, byte-13, byte-10, byte-fine)
+pub ruleset bytes = (rules, byte_high, byte-32, byte-9, byte-13, byte-10)
 
 -- `name_good`
 pub record Names (w : List ℕ) (i : ℕ) : Type 0 where

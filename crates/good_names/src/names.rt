@@ -2,11 +2,14 @@
 ghost use Rattle.std.specs.Prelude.{◌≡◌};
 ghost use Rattle.row_texts.specs.GoodRows.{good_byte, good_name};
 
+// The first byte that is too high for a name.
+const FIRST_HIGH: u8 = 128;
+
 // A byte below 128, no blank, CR or LF.
 fn byte_good(b: u8) -> bool
     ensures { result ≡ good_byte b }
 {
-    if 128 <= b {
+    if FIRST_HIGH <= b {
         return false;
     }
     if b == b' ' {
@@ -18,19 +21,17 @@ fn byte_good(b: u8) -> bool
     if b == b'\r' {
         return false;
     }
-    if b == b'\n' { false } else { true }
+    b != b'\n'
 }
 
 // One such byte or more.
 pub fn name_good(name: &[u8]) -> bool
     ensures { result ≡ good_name name.now }
 {
-    let mut i = 0;
-    while i < name.len() {
-        if !byte_good(name[i]) {
+    for b in name {
+        if !byte_good(*b) {
             return false;
         }
-        i += 1;
     }
-    0 < i
+    !name.is_empty()
 }

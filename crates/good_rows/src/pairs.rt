@@ -31,12 +31,10 @@ fn fragments_good(rows: &[u32], first: u32, n: u32) -> bool
     if rows.len() / 3 < f + k {
         return false;
     }
-    let mut i = 0;
-    while i < k {
+    for i in 0..k {
         if !fragment_good(rows, f + i) {
             return false;
         }
-        i += 1;
     }
     true
 }
@@ -76,13 +74,10 @@ pub fn pairs_good(form: Form, pairs: &[u32], n: usize, content: usize, fragments
     if pairs.len() / 7 < n {
         return false;
     }
-    let mut i = 0;
-    while i < n {
-        let w = form.width;
-        if !pair_good(w, pairs, i, content, fragments) {
+    for i in 0..n {
+        if !pair_good(form.width, pairs, i, content, fragments) {
             return false;
         }
-        i += 1;
     }
     true
 }

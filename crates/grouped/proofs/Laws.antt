@@ -21,8 +21,7 @@ use Rattle.laws.specs.Rows.{from, fixup_from, fixup_row, fixups_in}
 use Rattle.laws.proofs.Parts.{part_end}
 use Rattle.laws.proofs.Room.{grouped-le, flat-length}
 use Rattle.cells.proofs.Laws.{sets-append}
-use Rattle.grouped.specs.declared.Grouped.{Grouped}
-use Rattle.grouped.specs.declared.Grouped.TheVariants.{Numbers, Misfit}
+use Rattle.std.specs.Prelude.{Some, None}
 use Rattle.grouped.specs.Group.{row_for, area_for, areas_for, Stored, room_for, Regrouped}
 use Rattle.grouped.proofs.Rows.{length_from, nine-long, nine-is}
 
@@ -191,7 +190,7 @@ pub ruleset ordering = (rules, order-start, order-count, order-end, order-room, 
 -- ------------------------------------------------------------------ `by_area`
 
 module _ (rows : List ℕ) (k n : ℕ) (out : List ℕ) where
-  pub group-unlent : length rows / 9 < k → Regrouped k n rows out Misfit out
+  pub group-unlent : length rows / 9 < k → Regrouped k n rows out None out
   unfolding room_for
   group-unlent h = let e : leb (9 * k) (length rows) ≡ false = lt-leb (9 * k) (length rows) (omega arith) in record { says = rw e; stored = rw e }
 
@@ -199,7 +198,7 @@ module _ (rows : List ℕ) (k n : ℕ) (out : List ℕ) where
     pub group-lent : 9 * k ≤ length rows
     group-lent = omega arith
 
-    pub group-short : length out / 9 < k → Regrouped k n rows out Misfit out
+    pub group-short : length out / 9 < k → Regrouped k n rows out None out
     unfolding room_for
     group-short l =
         let d : leb (9 * k) (length rows) ≡ true = le-leb (9 * k) (length rows) (omega arith) in
@@ -210,7 +209,7 @@ module _ (rows : List ℕ) (k n : ℕ) (out : List ℕ) where
       pub group-space : 9 * k ≤ length out
       group-space = omega arith
 
-      pub group-done : {r : ℕ} → r ≡ length (areas_for n 0 (fixups_in rows k)) → {out' : List ℕ} → out' ≡ over (areas_for n 0 (fixups_in rows k)) out → Regrouped k n rows out (Numbers r) out'
+      pub group-done : {r : ℕ} → r ≡ length (areas_for n 0 (fixups_in rows k)) → {out' : List ℕ} → out' ≡ over (areas_for n 0 (fixups_in rows k)) out → Regrouped k n rows out (Some r) out'
       unfolding room_for
       group-done er eo =
           let d : leb (9 * k) (length rows) ≡ true = le-leb (9 * k) (length rows) (omega arith) in

@@ -4,16 +4,15 @@ use Prim.Native.Nat.{ℕ}
 use mathlib.Core.Path.{◌≡◌, refl, sym, ◌∙◌}
 use mathlib.Core.List.{List}
 use native.Mathlib.Omega.{arith}
-use Rattle.grouped.specs.declared.Grouped.{Grouped}
-use Rattle.grouped.specs.declared.Grouped.TheVariants.{Numbers, Misfit}
+use Rattle.std.specs.Prelude.{Option, Some, None}
 use Rattle.grouped.specs.Group.{told, Regrouped}
 
 -- `by_area`
-pub one-grouping : (k n : ℕ) (rows out : List ℕ) (r q : Grouped) (out₁ out₂ : List ℕ) → Regrouped k n rows out r out₁ → Regrouped k n rows out q out₂ → (r ≡ q) × (out₁ ≡ out₂)
+pub one-grouping : (k n : ℕ) (rows out : List ℕ) (r q : Option ℕ) (out₁ out₂ : List ℕ) → Regrouped k n rows out r out₁ → Regrouped k n rows out q out₂ → (r ≡ q) × (out₁ ≡ out₂)
 one-grouping k n rows out r q out₁ out₂ a b = (injective r q (a.says ∙ sym b.says), a.stored ∙ sym b.stored)
   where
-    injective : (x y : Grouped) → told x ≡ told y → x ≡ y
-    injective (Numbers m) (Numbers p) e = let h : m ≡ p = cc in rw h
-    injective (Numbers m) Misfit e = absurd (let z : ◌≡◌ {A = ℕ} 0 1 = cc in omega arith)
-    injective Misfit (Numbers p) e = absurd (let z : ◌≡◌ {A = ℕ} 0 1 = cc in omega arith)
-    injective Misfit Misfit e = refl
+    injective : (x y : Option ℕ) → told x ≡ told y → x ≡ y
+    injective (Some m) (Some p) e = let h : m ≡ p = cc in rw h
+    injective (Some m) None e = absurd (let z : ◌≡◌ {A = ℕ} 0 1 = cc in omega arith)
+    injective None (Some p) e = absurd (let z : ◌≡◌ {A = ℕ} 0 1 = cc in omega arith)
+    injective None None e = refl

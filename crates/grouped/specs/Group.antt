@@ -1,14 +1,12 @@
 -- The numbers of fixup rows, area by area.
 -- Assumes nothing.
-use Rattle.std.specs.Prelude.{ℕ, ◌+◌, ◌*◌, ◌≡◌, Bool, ◌&&◌, List, [], eqb, leb, length}
-use Rattle.std.proofs.Math.Option.{Option, none, some}
+use Rattle.std.specs.Prelude.{ℕ, ◌+◌, ◌*◌, ◌≡◌, Bool, ◌&&◌, List, [], eqb, leb, length, Option, Some, None}
+use Rattle.std.proofs.Math.Option as math
 use Rattle.std.proofs.lemmas.List.Edits.{sets}
 use Rattle.format.specs.Lists.{pick, flat, over}
 use Rattle.format.specs.Fixups.{Fixup, of_area, by_area}
 use Rattle.format.specs.Rows.{fixup_numbers}
 use Rattle.laws.specs.Rows.{fixups_in}
-use Rattle.grouped.specs.declared.Grouped.{Grouped}
-use Rattle.grouped.specs.declared.Grouped.TheVariants.{Numbers, Misfit}
 
 -- one row, if it lies in an area
 unfoldable pub row_for : ℕ → Fixup → List ℕ
@@ -31,11 +29,11 @@ pub record Stored (ys : List ℕ) (at : ℕ) (out : List ℕ) (r : ℕ) (out' : 
 unfoldable pub room_for : ℕ → (rows out : List ℕ) → Bool
 room_for k rows out = leb (9 * k) (length rows) && leb (9 * k) (length out)
 
-abbrev pub told : Grouped → Option ℕ
-told (Numbers n) = some n
-told Misfit = none
+abbrev pub told : Option ℕ → math.Option ℕ
+told (Some n) = math.some n
+told None = math.none
 
 -- the rows of n areas laid over a buffer; or a misfit, and nothing has changed
-pub record Regrouped (k n : ℕ) (rows out : List ℕ) (r : Grouped) (out' : List ℕ) : Type 0 where
-  pub says : told r ≡ pick (room_for k rows out) (some (length (areas_for n 0 (fixups_in rows k)))) none
+pub record Regrouped (k n : ℕ) (rows out : List ℕ) (r : Option ℕ) (out' : List ℕ) : Type 0 where
+  pub says : told r ≡ pick (room_for k rows out) (math.some (length (areas_for n 0 (fixups_in rows k)))) math.none
   pub stored : out' ≡ pick (room_for k rows out) (over (areas_for n 0 (fixups_in rows k)) out) out

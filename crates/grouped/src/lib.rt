@@ -9,13 +9,6 @@ ghost use Rattle.grouped.specs.Group.{row_for, area_for, areas_for, Stored, Regr
 use cells::{at, copy_u32s};
 use rooms::FIXUP_WIDTH;
 
-// How many numbers were laid over the buffer, or that one of the two buffers has no room for the rows.
-#[derive(Clone, Copy)]
-pub enum Grouped {
-    Numbers(usize),
-    Misfit,
-}
-
 // The row i, if it lies in the area id.
 fn row_to(rows: &[u32], i: usize, id: u32, out: &mut [u32], p: usize) -> usize
     requires i_in_bounds { 9 * i + 9 ≤ length rows.now }
@@ -37,10 +30,8 @@ fn area_rows(rows: &[u32], k: usize, id: u32, out: &mut [u32], p: usize) -> usiz
     ensures { Stored (area_for id (fixups_in rows.now k)) p out.old result out.new }
 {
     let mut q = p;
-    let mut i: usize = 0;
-    while i < k {
+    for i in 0..k {
         q = row_to(rows, i, id, out, q);
-        i += 1;
     }
     q
 }
@@ -51,23 +42,18 @@ fn areas_rows(rows: &[u32], k: usize, n: u32, out: &mut [u32]) -> usize
     ensures { (result ≡ length (areas_for n 0 (fixups_in rows.now k))) × (out.new ≡ over (areas_for n 0 (fixups_in rows.now k)) out.old) }
 {
     let mut p: usize = 0;
-    let mut id: u32 = 0;
-    while id < n {
+    for id in 0..n {
         p = area_rows(rows, k, id, out, p);
-        id += 1;
     }
     p
 }
 
-// The first k fixup rows, grouped by the n kept areas, over a buffer.
-pub fn by_area(rows: &[u32], k: usize, n: u32, out: &mut [u32]) -> Grouped
+// The first k fixup rows, grouped by the n kept areas, over a buffer: how many numbers they are, or none where one of the two buffers has no room for the rows.
+pub fn by_area(rows: &[u32], k: usize, n: u32, out: &mut [u32]) -> Option<usize>
     ensures { Regrouped k n rows.now out.old result out.new }
 {
-    if rows.len() / 9 < k {
-        return Grouped::Misfit;
+    if rows.len() / 9 < k || out.len() / 9 < k {
+        return None;
     }
-    if out.len() / 9 < k {
-        return Grouped::Misfit;
-    }
-    Grouped::Numbers(areas_rows(rows, k, n, out))
+    Some(areas_rows(rows, k, n, out))
 }

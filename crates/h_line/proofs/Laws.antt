@@ -11,13 +11,12 @@ use Rattle.format.specs.Bytes.{is_blank}
 use Rattle.format.specs.Got.{Got, is, isnt}
 use Rattle.format.specs.Number.{behind, blanks, number, past}
 use Rattle.format.specs.Entries.{field, lead}
-use Rattle.numbers.specs.Told.{told}
-use Rattle.numbers.specs.declared.Num.{Num}
-use Rattle.numbers.specs.declared.Num.TheVariants.{Is, No}
+use Rattle.std.specs.Prelude.{Result, Ok, Err}
+use Rattle.numbers.specs.Told.{told, code}
+use Rattle.numbers.specs.declared.Halt.{Halt}
+use Rattle.numbers.specs.declared.Read.{Read}
 use Rattle.numbers.proofs.Laws.Numbers.{space-no, space-is}
 use Rattle.fields.specs.Told.{went}
-use Rattle.fields.specs.declared.Place.{Place}
-use Rattle.fields.specs.declared.Place.TheVariants.{At, Not}
 use Rattle.fields.proofs.Laws.Fields.{word-no, word-is}
 use Rattle.counts.specs.Counts.{H, Two, areas, counts_line, global, last_word, letters, symbol_words, symbols, tells, two_numbers, whole_line}
 use Rattle.h_line.specs.Told.{two_of}
@@ -38,33 +37,33 @@ module _ (s : List ℕ) (at : ℕ) {a : ℕ} (e : a ≡ past is_blank s at) wher
   unfolding symbol_words
   words-1 h = rw (space-no s at e h)
 
-  module _ (h : a ≡ at → ⊥) {w : Place} (f : went w ≡ lead (letters global) s a) where
-    pub words-2 : {r p : ℕ} → w ≡ Not r p → isnt r p ≡ symbol_words s at
+  module _ (h : a ≡ at → ⊥) {w : Result ℕ Halt} (f : went w ≡ lead (letters global) s a) where
+    pub words-2 : {k : Halt} → w ≡ Err k → isnt (code k.reason) k.at ≡ symbol_words s at
     unfolding symbol_words
     words-2 g = rw (space-is s at e h, ← f, g)
 
-    pub words-3 : {b : ℕ} → w ≡ At b → {x : Got Unit} → x ≡ last_word s b → x ≡ symbol_words s at
+    pub words-3 : {b : ℕ} → w ≡ Ok b → {x : Got Unit} → x ≡ last_word s b → x ≡ symbol_words s at
     unfolding symbol_words
     words-3 g i = rw (space-is s at e h, ← f, g) i
 
 -- `two_numbers`
-module _ (radix : ℕ) (s : List ℕ) (at : ℕ) {n : Num} (e : told n ≡ number radix s at) where
-  pub two-1 : {r p : ℕ} → n ≡ No r p → none ≡ whole_line (length s) (two_numbers radix s at)
+module _ (radix : ℕ) (s : List ℕ) (at : ℕ) {n : Result (Read ℕ) Halt} (e : told n ≡ number radix s at) where
+  pub two-1 : {k : Halt} → n ≡ Err k → none ≡ whole_line (length s) (two_numbers radix s at)
   unfolding two_numbers
   two-1 g = rw (← e, g)
 
-  module _ {v a : ℕ} (g : n ≡ Is v a) {m : Num} (f : told m ≡ field (letters areas) radix s a) where
-    pub two-2 : {r p : ℕ} → m ≡ No r p → none ≡ whole_line (length s) (two_numbers radix s at)
+  module _ {v : Read ℕ} (g : n ≡ Ok v) {m : Result (Read ℕ) Halt} (f : told m ≡ field (letters areas) radix s v.next) where
+    pub two-2 : {k : Halt} → m ≡ Err k → none ≡ whole_line (length s) (two_numbers radix s at)
     unfolding two_numbers
     two-2 h = rw (← e, g, ← f, h)
 
-    module _ {w b : ℕ} (h : m ≡ Is w b) {x : Place} (i : went x ≡ symbol_words s b) where
-      pub two-3 : {r p : ℕ} → x ≡ Not r p → none ≡ whole_line (length s) (two_numbers radix s at)
+    module _ {w : Read ℕ} (h : m ≡ Ok w) {x : Result ℕ Halt} (i : went x ≡ symbol_words s w.next) where
+      pub two-3 : {k : Halt} → x ≡ Err k → none ≡ whole_line (length s) (two_numbers radix s at)
       unfolding two_numbers
       two-3 j = rw (← e, g, ← f, h, ← i, j)
 
-      module _ {q : ℕ} (j : x ≡ At q) where
-        pub two-4 : q ≡ length s → some (two_of v w) ≡ whole_line (length s) (two_numbers radix s at)
+      module _ {q : ℕ} (j : x ≡ Ok q) where
+        pub two-4 : q ≡ length s → some (two_of v.value w.value) ≡ whole_line (length s) (two_numbers radix s at)
         unfolding two_numbers
         two-4 k = rw (← e, g, ← f, h, ← i, j, eq-eqb q (length s) k)
 
@@ -73,19 +72,17 @@ module _ (radix : ℕ) (s : List ℕ) (at : ℕ) {n : Num} (e : told n ≡ numbe
         two-5 k = rw (← e, g, ← f, h, ← i, j, ne_eqb q (length s) k)
 
 -- `tells`
-module _ (radix : ℕ) (s : List ℕ) {w : Place} (e : went w ≡ lead (letters H) s 0) where
-  pub tells-1 : {r p : ℕ} → w ≡ Not r p → none ≡ tells radix s
+module _ (radix : ℕ) (s : List ℕ) {w : Result ℕ Halt} (e : went w ≡ lead (letters H) s 0) where
+  pub tells-1 : {k : Halt} → w ≡ Err k → none ≡ tells radix s
   unfolding tells counts_line
   tells-1 g = rw (← e, g)
 
-  pub tells-2 : {a : ℕ} → w ≡ At a → {x : Option Two} → x ≡ whole_line (length s) (two_numbers radix s a) → x ≡ tells radix s
+  pub tells-2 : {a : ℕ} → w ≡ Ok a → {x : Option Two} → x ≡ whole_line (length s) (two_numbers radix s a) → x ≡ tells radix s
   unfolding tells counts_line
   tells-2 g h = rw (← e, g) h
 
 pub ruleset lasts = (rules, last-1, last-2)
 
 pub ruleset words = (rules, words-1, words-2, words-3)
-
-pub ruleset twos = (rules, two-1, two-2, two-3, two-4, two-5)
 
 pub ruleset telling = (rules, tells-1, tells-2)

@@ -1,5 +1,6 @@
 // The halt of a T line by the relocated form, and of the line behind it.
 ghost use Rattle.std.specs.Prelude.{◌≡◌, ◌+◌, ◌<◌, ◌^◌, length};
+ghost use Rattle.numbers.specs.Told.{code};
 ghost use Rattle.header.specs.Told.{form_of};
 ghost use Rattle.halt.specs.Halt.{pair_halt};
 ghost use Rattle.line_halt.specs.Told.{told_halt};
@@ -7,8 +8,15 @@ ghost use Rattle.halt_of.specs.Told.{line_with};
 
 use header::Form;
 use line_halt::Halt;
-use pair_line::ContentLine;
+use numbers::Reason;
 use relocation_halt::relocation_halt;
+
+// A reason's number.
+fn number_of(reason: Reason) -> u8
+    ensures { result ≡ code reason }
+{
+    reason as u8
+}
 
 // A T line with a line end of so many bytes, and the line behind it; places count from the T.
 pub(crate) fn pair_halt(t: &[u8], ends: usize, r: &[u8], form: Form) -> Halt
@@ -17,19 +25,15 @@ pub(crate) fn pair_halt(t: &[u8], ends: usize, r: &[u8], form: Form) -> Halt
 {
     let mut out = [0u8; 256];
     match pair_line::whole_content(t, form, &mut out) {
-        ContentLine::NoContent { reason, at } => Halt {
-            reason: reason,
-            at: at,
+        Err(halt) => Halt {
+            reason: number_of(halt.reason),
+            at: halt.at,
         },
-        ContentLine::Content {
-            address: _,
-            count: _,
-            used,
-        } => {
+        Ok(content) => {
             if ends == 0 {
                 return Halt {
                     reason: 4,
-                    at: used,
+                    at: content.used,
                 };
             }
             let h = relocation_halt(r, form);

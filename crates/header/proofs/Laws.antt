@@ -17,10 +17,8 @@ use Rattle.format.specs.Lists.{pick, run}
 use Rattle.format.specs.Bytes.{is_blank, is_white}
 use Rattle.format.specs.Number.{past}
 use Rattle.format.specs.Header.{radix_of, is_order, is_length, is_form, letters, later, header}
-use Rattle.header.specs.Told.{form_of}
 use Rattle.header.specs.Letters.{shifted, letters_at}
 use Rattle.format.specs.Header as the
-use Rattle.header.specs.declared.Head.{Head}
 use Rattle.scan.proofs.Laws.Tests.{by_order, was-no, was-yes}
 
 -- the header

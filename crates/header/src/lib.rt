@@ -35,36 +35,26 @@ pub enum Head {
 fn radix_of(b: u8) -> u8
     ensures { result ≡ radix_of b }
 {
-    if b == b'X' {
-        return 16;
+    match b {
+        b'X' => 16,
+        b'D' => 10,
+        b'Q' => 8,
+        _ => 0,
     }
-    if b == b'D' {
-        return 10;
-    }
-    if b == b'Q' {
-        return 8;
-    }
-    0
 }
 
 // H or L.
 fn is_order(b: u8) -> bool
     ensures { result ≡ is_order b }
 {
-    if b == b'H' {
-        return true;
-    }
-    b == b'L'
+    b == b'H' || b == b'L'
 }
 
 // 2, 3 or 4.
 fn is_length(c: u8) -> bool
     ensures { result ≡ is_length c }
 {
-    if c < b'2' {
-        return false;
-    }
-    c <= b'4'
+    b'2' <= c && c <= b'4'
 }
 
 // The address length that a header's last letter names.
@@ -102,12 +92,12 @@ fn letters_at(t: &[u8], p: usize) -> Head
         return Head::Missing;
     }
     let form = Form {
-        radix: radix,
+        radix,
         big: b == b'H',
         width: width_of(c),
     };
     Head::Found {
-        form: form,
+        form,
         next: scan::past_kind(t, p + 3, Kind::Blank),
     }
 }

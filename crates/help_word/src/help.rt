@@ -9,9 +9,5 @@ use alike::same_name;
 pub fn asks_help(word: &[u8]) -> bool
     ensures { result ≡ (same_numbers word.now short || same_numbers word.now long) }
 {
-    let is_short = same_name(word, b"-h");
-    if is_short {
-        return true;
-    }
-    same_name(word, b"--help")
+    same_name(word, b"-h") || same_name(word, b"--help")
 }

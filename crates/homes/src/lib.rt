@@ -56,12 +56,10 @@ fn kept_home(areas: &[u32], n: usize, i: usize, size: u32) -> Home
 {
     let mut k: u32 = 0;
     let mut s: usize = 0;
-    let mut j: usize = 0;
-    while j < i {
+    for j in 0..i {
         let z = size_at(areas, j);
         k += one_if(z);
         s += z as usize;
-        j += 1;
     }
     Home {
         area: i,

@@ -2,13 +2,8 @@
 ghost use Rattle.std.specs.Prelude.{◌≤◌, length};
 ghost use Rattle.std.specs.Io.{WritesAtMost};
 
-use crate::failure::Failure;
+use crate::failure::{Failure, INVALID, TOO_LONG};
 use std::env::{Env, FillError};
-
-// Causes: an argument that is not there, and one that is longer than the room for it.
-const INVALID: i32 = 22;
-
-const TOO_LONG: i32 = 36;
 
 // Puts argument i at the start of a room, and answers its length; one that is longer than the room leaves its first bytes there.
 pub fn argument(rt: &impl Env, i: usize, room: &mut [u8]) -> Result<usize, Failure>
@@ -25,18 +20,12 @@ pub fn argument(rt: &impl Env, i: usize, room: &mut [u8]) -> Result<usize, Failu
 pub fn argument_or_none(rt: &impl Env, i: usize, room: &mut [u8]) -> usize
     ensures { result ≤ length room.new }
 {
-    match rt.arg(i, room) {
-        Ok(n) => n,
-        Err(_) => 0,
-    }
+    rt.arg(i, room).unwrap_or(0)
 }
 
 // Whether there is an argument i.
 fn is_there(rt: &impl Env, i: usize) -> bool {
-    match rt.arg(i, &mut []) {
-        Err(FillError::NotPresent) => false,
-        _ => true,
-    }
+    !matches!(rt.arg(i, &mut []), Err(FillError::NotPresent))
 }
 
 // How many arguments the program was started with, its own name among them.

@@ -8,10 +8,15 @@ pub struct Failure {
     pub code: i32,
 }
 
-// Causes that come from no call: an argument that is no file's name, and one that cannot be told.
+// Causes that come from no call: one that cannot be told, an argument that is not there or no file's name, one that is too long, and
+// one that is no UTF-8, which std cannot open.
 const INPUT_OUTPUT: i32 = 5;
 
-const INVALID: i32 = 22;
+pub(crate) const INVALID: i32 = 22;
+
+pub(crate) const TOO_LONG: i32 = 36;
+
+pub(crate) const NO_TEXT: i32 = 84;
 
 // Why the last call failed, for one whose answer does not say it, such as `io::write_all`.
 pub fn last_failure() -> Failure {
@@ -20,15 +25,12 @@ pub fn last_failure() -> Failure {
 
 // Why a call of std failed. A name with a NUL in it never came to the system: the argument is not valid.
 pub fn of_error(e: &Error) -> Failure {
-    match e.raw_os_error() {
-        Some(code) => Failure { code: code },
-        None => {
-            if e.kind() == ErrorKind::InvalidInput {
-                return Failure { code: INVALID };
-            }
-            Failure { code: INPUT_OUTPUT }
-        }
-    }
+    let code = match e.raw_os_error() {
+        Some(code) => code,
+        None if e.kind() == ErrorKind::InvalidInput => INVALID,
+        None => INPUT_OUTPUT,
+    };
+    Failure { code: code }
 }
 
 // The words for an error that stand before its number in brackets.
@@ -41,12 +43,9 @@ fn words(text: &str) -> &str {
 
 // The first n bytes as text; none are cut off where all are.
 fn text_of(bytes: &[u8], n: usize) -> &str {
-    if bytes.len() < n {
-        return "";
-    }
-    match std::str::from_utf8(&bytes[..n]) {
-        Ok(text) => text,
-        Err(_) => "",
+    match bytes.get(..n) {
+        Some(part) => std::str::from_utf8(part).unwrap_or(""),
+        None => "",
     }
 }
 

@@ -1,14 +1,7 @@
 // Files by their names.
-use crate::failure::{Failure, of_error};
+use crate::failure::{Failure, INVALID, NO_TEXT, TOO_LONG, of_error};
 use std::fs;
 use std::rt::Files;
-
-// Causes: a name with a NUL in it, one that no file can have since it is too long, and one that is no UTF-8, which std cannot open.
-const INVALID: i32 = 22;
-
-const TOO_LONG: i32 = 36;
-
-const NO_TEXT: i32 = 84;
 
 // The most bytes of a name, and one more.
 const NAME_ROOM: usize = 4096;
@@ -26,11 +19,11 @@ pub fn open<R: Files>(rt: &R, name: &[u8]) -> Result<R::File, Failure> {
     if NAME_ROOM <= name.len() {
         return Err(Failure { code: TOO_LONG });
     }
-    match std::str::from_utf8(name) {
-        Err(_) => Err(no_text(name)),
-        Ok(text) => match fs::open(rt, text) {
-            Ok(file) => Ok(file),
-            Err(e) => Err(of_error(&e)),
-        },
+    let Ok(text) = std::str::from_utf8(name) else {
+        return Err(no_text(name));
+    };
+    match fs::open(rt, text) {
+        Ok(file) => Ok(file),
+        Err(e) => Err(of_error(&e)),
     }
 }

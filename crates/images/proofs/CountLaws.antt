@@ -1,14 +1,14 @@
 -- What the proofs of the count share: full masks, and the known bits that a count comes to.
 -- Assumes nothing.
-use Prim.Native.Nat.{ℕ, zero, suc, ◌+◌, ◌-◌, ◌*◌, ◌≤◌, ◌<◌}
+use Prim.Native.Nat.{ℕ, zero, suc, ◌+◌, ◌-◌, ◌≤◌, ◌<◌}
 use mathlib.Core.Path.{◌≡◌, refl, sym, ap, ◌∙◌}
 use mathlib.Core.List.{List, [], ◌∷◌, ◌++◌}
 use native.Mathlib.Numerals.{add-one}
 use native.Mathlib.Omega.{arith}
 use mir.Val.{Fits}
 use mir.Syntax.{w64}
-use lib.ListN.{length, get_or, set, replicate, length-replicate, length-set}
-use lib.Seq.{sets, set_out, length-sets}
+use lib.ListN.{length, replicate, length-replicate}
+use lib.Seq.{sets}
 use borrow.Author.Rules.{rules}
 use Rattle.format.specs.Known.{ones_of}
 use Rattle.cells.proofs.Laws.{sets-append}

@@ -1,6 +1,6 @@
 -- What the proofs of the walk for the images share: a law for each return, and the loop's invariant.
 -- Assumes nothing.
-use Prim.Native.Nat.{ℕ, zero, suc, ◌+◌, ◌-◌, ◌*◌, ◌≤◌, ◌<◌}
+use Prim.Native.Nat.{ℕ, zero, suc, ◌+◌, ◌-◌, ◌≤◌, ◌<◌}
 use mathlib.Core.Path.{◌≡◌, refl, sym, ap, ◌∙◌}
 use mathlib.Core.Bool.{Bool, true, false, not}
 use mathlib.Core.List.{List}
@@ -12,13 +12,11 @@ use lib.Dec.{eqb}
 use lib.ListN.{length, get_or, set}
 use borrow.Author.Rules.{rules}
 use borrow.Author.Tests.{lt-ltb, le-ltb, eq-eqb, ne_eqb, not-true, not-false}
-use Rattle.format.specs.Lists.{pick}
 use Rattle.sites.specs.declared.Site.{Site}
 use Rattle.laws.proofs.Areas.{one_at_most}
 use Rattle.sites.specs.Site.{Ready, is_ready}
 use Rattle.sites.proofs.Fitting.{ready_by}
-use Rattle.format.specs.Known.{ones_of}
-use Rattle.images.specs.Image.{image_walk, image_of, moved, Wrote, Imaged, Written}
+use Rattle.images.specs.Image.{image_walk, image_of, Wrote, Imaged, Written}
 use Rattle.image_byte.specs.Count.{Counted, Marked}
 use Rattle.image_byte.proofs.CountLaws.{counted_none, counted-more, counted-idle, marked-on}
 use Rattle.images.specs.declared.image.Entered.{Entered}

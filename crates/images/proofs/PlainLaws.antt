@@ -159,14 +159,7 @@ pub plain-asks : {s : Site} → Ready s → s.line.address < s.size → {q to : 
     → (to ≤ 65536) × (k ≤ 256) × (2080 ≤ count) × (count ≤ 4294969375)
 plain-asks r h eq et l a b = (omega (arith, r.inside), omega (arith, r.line.content), a, b)
 
--- `fewer`
-pub fewer-all : (a b : ℕ) → a ≤ b → (a ≡ pick (leb a b) a b) × (a ≤ a)
-fewer-all a b h = (rw (le-leb a b h), omega arith)
-
-pub fewer-some : (a b : ℕ) → b < a → (b ≡ pick (leb a b) a b) × (b ≤ a)
-fewer-some a b h = (rw (lt-leb a b h), omega arith)
-
-pub ruleset plain = (rules, le-leb, lt-leb, plain_out, plain_fits, plain_in, plain-asks, fewer-all, fewer-some)
+pub ruleset plain = (rules, le-leb, lt-leb, plain_out, plain_fits, plain_in, plain-asks)
 
 -- `write_plain`: t is the test of the bounds
 module _ (s : Site) (bs vs ms : List ℕ) {t : Bool} (et : t ≡ is_ready s) where

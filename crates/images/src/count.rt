@@ -12,10 +12,8 @@ pub(crate) fn fill_masks(masks: &mut [u8], to: usize, k: usize, count: usize) ->
     ensures { Filled to k count masks.old result masks.new }
 {
     let mut c = count;
-    let mut i: usize = 0;
-    while i < k {
+    for i in 0..k {
         c = c + put_mask(masks, to + i, 255) - 8;
-        i += 1;
     }
     c
 }
@@ -31,5 +29,5 @@ pub(crate) fn count_from(known: u32) -> usize
 pub(crate) fn known_by(count: usize) -> usize
     ensures { result ≡ count - 2080 }
 {
-    if count < 2080 { 0 } else { count - 2080 }
+    count.saturating_sub(2080)
 }

@@ -61,16 +61,14 @@ fn write_entries(
 {
     let mut k = count;
     let n = (site.line.width + site.line.bytes) as u32;
-    let mut e: u32 = 0;
     let mut p = site.line.address;
-    while e < n {
+    for e in 0..n {
         if site.size <= p {
             return k;
         }
         let entered = write_entry(wv, wm, wk, e, site.start, p, values, masks, k);
         p += entered.grows;
         k = entered.count;
-        e += 1;
     }
     k
 }

@@ -12,7 +12,7 @@ use sites::{Site, is_ready};
 fn fewer(a: usize, b: usize) -> usize
     ensures { (result ≡ pick (leb a b) a b) × (result ≤ a) }
 {
-    if a <= b { a } else { b }
+    a.min(b)
 }
 
 // The content bytes and full masks from the address on, as far as they lie inside the area. Answers the count then.

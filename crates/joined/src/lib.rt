@@ -8,10 +8,10 @@ ghost use Rattle.numbers.specs.Told.{told};
 ghost use Rattle.header.specs.Told.{more_of};
 
 use header::Width;
-use numbers::Num;
+use numbers::Parsed;
 
 // An address: as many bytes as the header says.
-pub fn parse_multi_number(t: &[u8], at: usize, radix: u8, big: bool, w: Width) -> Num
+pub fn parse_multi_number(t: &[u8], at: usize, radix: u8, big: bool, w: Width) -> Parsed<u32>
     ensures { told result ≡ joined_at radix big (more_of w) t.now at }
 {
     match w {
@@ -22,7 +22,7 @@ pub fn parse_multi_number(t: &[u8], at: usize, radix: u8, big: bool, w: Width) -
 }
 
 // An index: two bytes.
-pub fn parse_area_index(t: &[u8], at: usize, radix: u8, big: bool) -> Num
+pub fn parse_area_index(t: &[u8], at: usize, radix: u8, big: bool) -> Parsed<u32>
     ensures { told result ≡ index radix big t.now at }
 {
     joined_bytes::two_of(t, at, radix, big)

@@ -7,7 +7,7 @@ ghost use Rattle.numbers.specs.Told.{told};
 ghost use Rattle.joined_bytes.specs.Steps.{join_step};
 
 use crate::short::{short_three, short_two};
-use numbers::Num;
+use numbers::{Parsed, Read};
 
 mod short;
 
@@ -35,81 +35,69 @@ pub(crate) fn join_step(big: bool, v: u64, places: u64, b: u64) -> u64
     }
 }
 
+// Two bytes as one number.
+pub fn join_two(big: bool, a: u8, b: u8) -> u64
+    ensures { (result ≡ join_step big a 256 b) × (result < 65536) }
+{
+    join_step(big, u64::from(a), 1, u64::from(b))
+}
+
+// A third byte joined to two.
+pub fn join_third(big: bool, two: u16, c: u8) -> u64
+    ensures { (result ≡ join_step big two 65536 c) × (result < 16777216) }
+{
+    join_step(big, u64::from(two), 2, u64::from(c))
+}
+
 // n + 1 bytes separated by blanks, joined into one number.
-fn joined_of(t: &[u8], at: usize, radix: u8, big: bool, n: usize) -> Num
+fn joined_of(t: &[u8], at: usize, radix: u8, big: bool, n: u64) -> Parsed<u32>
     requires { n ≤ 3 }
     ensures { told result ≡ joined_at radix big n t.now at }
 {
-    let first = quick_numbers::parse_byte(t, at, radix);
-    let Num::Is { value, next } = first else {
-        return first;
-    };
-    let mut v = value as u64;
-    let mut places: u64 = 1;
-    let mut p = next;
-    let mut k = n;
-    while 0 < k {
-        let b = quick_numbers::next_byte(t, p, radix);
-        let Num::Is { value: d, next: q } = b else {
-            return b;
-        };
-        v = join_step(big, v, places, d as u64);
-        places += 1;
-        p = q;
-        k -= 1;
+    let first = quick_numbers::parse_byte(t, at, radix)?;
+    let mut v = u64::from(first.value);
+    let mut p = first.next;
+    for places in 1..n + 1 {
+        let b = quick_numbers::next_byte(t, p, radix)?;
+        v = join_step(big, v, places, u64::from(b.value));
+        p = b.next;
     }
-    Num::Is {
+    Ok(Read {
         value: v as u32,
         next: p,
-    }
+    })
 }
 
-// An answer taken apart and made anew, so that a function with a short way and a long one makes its answer itself in both.
-fn anew(n: Num) -> Num
-    ensures { result ≡ n }
-{
-    match n {
-        Num::Is { value, next } => Num::Is {
-            value: value,
-            next: next,
-        },
-        Num::No { reason, at } => Num::No {
-            reason: reason,
-            at: at,
-        },
-    }
-}
-
-// Two bytes as one number. The common form is read at once.
-pub fn two_of(t: &[u8], at: usize, radix: u8, big: bool) -> Num
+// Two bytes as one number. The common form is read at once. The long way's answer is taken apart and made anew, so that both ways make their answer here.
+pub fn two_of(t: &[u8], at: usize, radix: u8, big: bool) -> Parsed<u32>
     ensures { told result ≡ joined_at radix big 1 t.now at }
 {
     let v = short_two(t, at, radix, big);
     if v < 65536 {
-        return Num::Is {
+        return Ok(Read {
             value: v as u32,
             next: at + 5,
-        };
+        });
     }
-    anew(joined_of(t, at, radix, big, 1))
+    Ok(joined_of(t, at, radix, big, 1)?)
 }
 
-// Three bytes as one number. The common form is read at once.
-pub fn three_of(t: &[u8], at: usize, radix: u8, big: bool) -> Num
+// Three bytes as one number. The common form is read at once, and the long way's answer is made anew, as with two.
+pub fn three_of(t: &[u8], at: usize, radix: u8, big: bool) -> Parsed<u32>
     ensures { told result ≡ joined_at radix big 2 t.now at }
 {
     let v = short_three(t, at, radix, big);
     if v < 16777216 {
-        return Num::Is {
+        return Ok(Read {
             value: v as u32,
             next: at + 8,
-        };
+        });
     }
-    anew(joined_of(t, at, radix, big, 2))
+    Ok(joined_of(t, at, radix, big, 2)?)
 }
 
 // Four bytes as one number.
-pub fn four_of(t: &[u8], at: usize, radix: u8, big: bool) -> Num
+pub fn four_of(t: &[u8], at: usize, radix: u8, big: bool) -> Parsed<u32>
     ensures { told result ≡ joined_at radix big 3 t.now at }
 {
     joined_of(t, at, radix, big, 3)

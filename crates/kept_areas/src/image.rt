@@ -14,14 +14,12 @@ pub fn area_image<'a>(image: &'a [u8], areas: &[u32], n: usize, i: usize) -> &'a
         return &image[..0];
     }
     let mut start = 0;
-    let mut j = 0;
-    while j < i {
+    for j in 0..i {
         let size = kept_size(areas, j);
         if image.len() - start < size {
             return &image[..0];
         }
         start += size;
-        j += 1;
     }
     part(image, start, kept_size(areas, i))
 }

@@ -2,7 +2,6 @@
 ghost use Rattle.std.specs.Prelude.{◌≡◌};
 ghost use Rattle.format.specs.Tables as the;
 ghost use Rattle.laws.specs.Rows.{area_at};
-ghost use Rattle.kept_areas.specs.Images.{one_if};
 
 use area_rows::{area_size, is_code};
 use cells::wide;
@@ -17,9 +16,9 @@ pub(crate) fn kept_size(areas: &[u32], i: usize) -> usize
     0
 }
 
-// 1 for an area that is kept.
-pub(crate) fn kept_one(areas: &[u32], i: usize) -> usize
-    ensures { result ≡ one_if (the.kept (area_at areas.now i)) }
+// Whether an area is kept.
+pub(crate) fn is_kept(areas: &[u32], i: usize) -> bool
+    ensures { result ≡ the.kept (area_at areas.now i) }
 {
-    if 1 <= kept_size(areas, i) { 1 } else { 0 }
+    1 <= kept_size(areas, i)
 }

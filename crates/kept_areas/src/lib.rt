@@ -6,4 +6,4 @@ mod kept;
 mod rank;
 
 pub use image::area_image;
-pub use rank::{Id, area_id};
+pub use rank::area_id;

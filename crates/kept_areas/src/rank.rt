@@ -4,30 +4,18 @@ ghost use Rattle.format.specs.Tables as the;
 ghost use Rattle.laws.specs.Rows.{areas_in};
 ghost use Rattle.kept_areas.specs.Told.{told_id};
 
-use crate::kept::kept_one;
+use crate::kept::is_kept;
 
-// An area's rank among the kept ones, if it is kept.
-#[derive(Clone, Copy)]
-pub enum Id {
-    Kept { id: usize },
-    Unkept,
-}
-
-// Area i's id among n areas.
-pub fn area_id(areas: &[u32], n: usize, i: usize) -> Id
+// Area i's id among n areas, if it is kept.
+pub fn area_id(areas: &[u32], n: usize, i: usize) -> Option<usize>
     ensures { told_id result ≡ the.rank 0 (areas_in areas.now n) i }
 {
     if n <= i {
-        return Id::Unkept;
+        return None;
     }
     let mut k = 0;
-    let mut j = 0;
-    while j < i {
-        k += kept_one(areas, j);
-        j += 1;
+    for j in 0..i {
+        k += usize::from(is_kept(areas, j));
     }
-    if 1 <= kept_one(areas, i) {
-        return Id::Kept { id: k };
-    }
-    Id::Unkept
+    is_kept(areas, i).then_some(k)
 }

@@ -11,7 +11,7 @@ use mir.Syntax.{w64}
 use borrow.Author.Rules.{rules}
 use borrow.Author.Tests.{le-leb, lt-leb}
 use Rattle.format.specs.Lists.{pick}
-use Rattle.format.specs.Tables.{kept, kept_size, kept_count, total}
+use Rattle.format.specs.Tables.{kept_size, kept_count, total}
 use Rattle.laws.specs.Rows.{from, area_at, areas_in}
 use Rattle.laws.proofs.Areas.{kept-none, kept-code, pick-size, one_at_most}
 use Rattle.kept_sizes.specs.Sizes.{SizesAre, few}

@@ -42,12 +42,10 @@ fn sizes_in(areas: &[u32], n: usize) -> Sizes
 {
     let mut kept = 0;
     let mut total = 0;
-    let mut j = 0;
-    while j < n {
+    for j in 0..n {
         let size = kept_size(areas, j);
         kept += one_if(size);
         total += size;
-        j += 1;
     }
     Sizes {
         kept: kept,
@@ -56,11 +54,9 @@ fn sizes_in(areas: &[u32], n: usize) -> Sizes
 }
 
 // The kept ones of the first n rows of an array of 64.
+#[tactic(auto, unfolding(crate::specs::Sizes::few))]
 pub fn sizes_of(areas: &[u32; AREA_ROOM], n: usize) -> Sizes
     ensures { SizesAre areas.now (few n) result }
 {
-    if n <= 64 {
-        return sizes_in(areas, n);
-    }
-    sizes_in(areas, 64)
+    sizes_in(areas, n.min(64))
 }

@@ -20,12 +20,10 @@ fn kind(list: &[u32], i: usize) -> u32
 pub fn other_change(list: &[u32], n: usize) -> usize
     ensures { result ≡ first_of (other_change list.now) n }
 {
-    let mut i = 0;
-    while i < n {
+    for i in 0..n {
         if kind(list, i) != SYMBOL_ONLY_OLD {
             return i;
         }
-        i += 1;
     }
-    i
+    n
 }

@@ -20,10 +20,8 @@ fn mark_one(text: &[u8], symbols: &[u32], j: usize, name: &[u8], flags: &mut [u8
 pub fn mark(text: &[u8], symbols: &[u32], n: usize, name: &[u8], flags: &mut [u8])
     ensures { flags.new ≡ marked text.now symbols.now name.now flags.old n }
 {
-    let mut j = 0;
-    while j < n {
+    for j in 0..n {
         mark_one(text, symbols, j, name, flags);
-        j += 1;
     }
 }
 
@@ -42,13 +40,11 @@ pub fn staying(flags: &[u8], n: usize) -> usize
     ensures { (result ≡ staying flags.now n) × (result ≤ n) }
 {
     let mut k = 0;
-    let mut j = 0;
-    while j < n {
+    for j in 0..n {
         if flags.len() <= j {
             return k + (n - j);
         }
         k += one_staying(flags, j);
-        j += 1;
     }
     k
 }

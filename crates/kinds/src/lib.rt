@@ -45,10 +45,8 @@ fn count(masks: &[u8], map: &[u8], n: usize, kind: u32) -> usize
     ensures { result ≡ kind_count masks.now map.now kind 0 n }
 {
     let mut many: usize = 0;
-    let mut i: usize = 0;
-    while i < n {
+    for i in 0..n {
         many += one_if(masks, map, i, kind);
-        i += 1;
     }
     many
 }

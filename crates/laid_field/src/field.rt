@@ -11,7 +11,6 @@ use cells::wide;
 use classes::size_on_site;
 use joining::endian_to_number;
 use number_bytes::put_number;
-use referred_address::Address;
 use target_words::add64;
 
 // Whether a mode has three bytes on site.
@@ -28,13 +27,6 @@ fn how_many(three: bool) -> usize
     if three { 3 } else { 2 }
 }
 
-// A number to add to an address.
-fn far(x: u32) -> u64
-    ensures { result ≡ x }
-{
-    x as u64
-}
-
 // The number that the content has from a site on.
 fn number_at(bs: &[u8], site: u32, big: bool, three: bool) -> u64
     ensures { result ≡ join big (take (pick three 3 2) (drop site bs.now)) }
@@ -43,17 +35,17 @@ fn number_at(bs: &[u8], site: u32, big: bool, three: bool) -> u64
     if bs.len() <= at {
         return 0;
     }
-    far(endian_to_number(big, &bs[at..], how_many(three)))
+    u64::from(endian_to_number(big, &bs[at..], how_many(three)))
 }
 
 // A fragment's bytes over the content from its site on.
-pub fn lay_field(part: &mut [u8], bs: &[u8], mode: u32, site: u32, big: bool, to: Address)
+pub fn lay_field(part: &mut [u8], bs: &[u8], mode: u32, site: u32, big: bool, to: Option<u64>)
     ensures { part.new ≡ sets part.old site (field_by big site bs.now mode (told_address to)) }
 {
     let three = is_three(mode);
     match to {
-        Address::Nothing => put_number(part, site, big, three, 0),
-        Address::At(a) => put_number(
+        None => put_number(part, site, big, three, 0),
+        Some(a) => put_number(
             part,
             site,
             big,

@@ -1,5 +1,5 @@
 // The fragments of a pair laid over its content.
-ghost use Rattle.std.specs.Prelude.{◌≡◌, ◌-◌, ◌≤◌};
+ghost use Rattle.std.specs.Prelude.{◌≡◌, ◌≤◌};
 ghost use Rattle.std.proofs.lemmas.List.Edits.{sets};
 ghost use Rattle.laws.specs.Rows.{from};
 ghost use Rattle.record_parts.specs.Parts.{fragment_from};
@@ -9,13 +9,6 @@ use cells::at;
 use laid_field::lay_field;
 use referred_address::address_to;
 use sites::Filled;
-
-// Where an entry's byte stands in the content.
-fn site_of(entry: u32, width: u32) -> u32
-    ensures { result ≡ entry - width }
-{
-    if entry < width { 0 } else { entry - width }
-}
 
 // The fragment of a row.
 fn lay_fragment(
@@ -38,7 +31,8 @@ fn lay_fragment(
     let entry = at(rows, 3 * i + 1);
     let index = at(rows, 3 * i + 2);
     let to = address_to(mode, entry, index, areas, symbols, filled, chosen, outside);
-    lay_field(part, bs, mode, site_of(entry, width), big, to)
+    let site = entry.saturating_sub(width);
+    lay_field(part, bs, mode, site, big, to)
 }
 
 // The fragments of n rows from the first on.
@@ -59,8 +53,7 @@ pub(crate) fn lay_fragments(
     requires { (first ≤ 4294967296) × (n ≤ 4294967296) }
     ensures { part.new ≡ laid_over big width (around areas.now symbols.now filled chosen.now outside.now) bs.now (from (fragment_from rows.now) first n) part.old }
 {
-    let mut i: usize = 0;
-    while i < n {
+    for i in 0..n {
         lay_fragment(
             part,
             bs,
@@ -74,6 +67,5 @@ pub(crate) fn lay_fragments(
             chosen,
             outside,
         );
-        i += 1;
     }
 }

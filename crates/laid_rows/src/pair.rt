@@ -1,5 +1,5 @@
 // One pair: its content with each fragment's bytes replaced, laid as far as it lies in its area.
-ghost use Rattle.std.specs.Prelude.{◌≡◌, min, ◌≤◌, length, take};
+ghost use Rattle.std.specs.Prelude.{◌≡◌, ◌≤◌, length, take};
 ghost use Rattle.std.proofs.lemmas.List.Edits.{sets};
 ghost use Rattle.laws.specs.Rows.{from};
 ghost use Rattle.record_parts.specs.Parts.{fragment_from};
@@ -9,13 +9,6 @@ use crate::fragments::lay_fragments;
 use crate::span::span_of;
 use cells::copy_bytes;
 use sites::Filled;
-
-// The lesser of two counts.
-fn fewer(a: usize, b: usize) -> usize
-    ensures { result ≡ min a b }
-{
-    if a <= b { a } else { b }
-}
 
 // A pair's bytes with its fragments laid over them, at the start of what is lent, which may hold anything.
 fn lay_content(
@@ -72,7 +65,7 @@ fn lay_part(
     lay_content(
         &mut part, bs, rows, first, n, big, width, areas, symbols, filled, chosen, outside,
     );
-    lay_out(out, place, &part, fewer(bs.len(), limit))
+    lay_out(out, place, &part, bs.len().min(limit))
 }
 
 // The k-th pair. One of an area that is not kept lays nothing.

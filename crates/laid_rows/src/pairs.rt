@@ -22,14 +22,9 @@ pub fn lay_pairs(
 )
     ensures { out.new ≡ rows_over big width (around areas.now symbols.now filled chosen.now outside.now) pairs.now content.now rows.now 0 (min n 4096) out.old }
 {
-    let mut k: usize = 0;
-    while k < n {
-        if 4096 <= k {
-            return;
-        }
+    for k in 0..n.min(4096) {
         lay_pair(
             pairs, content, rows, k, big, width, areas, symbols, filled, chosen, outside, out,
         );
-        k += 1;
     }
 }

@@ -1,30 +1,20 @@
 -- The laws of what is laid over the lent buffers.
 -- Assumes nothing.
-use Prim.Native.Nat.{ℕ, ◌*◌, ◌≤◌, ◌<◌}
+use Prim.Native.Nat.{ℕ, ◌*◌, ◌≤◌}
 use mathlib.Core.Path.{◌≡◌}
 use mathlib.Core.List.{List}
 use lib.ListN.{length, take}
 use lib.Seq.{sets}
 use borrow.Author.Rules.{rules}
-use borrow.Author.Tests.{le-leb, lt-leb}
+use borrow.Author.Tests.{le-leb}
 use Rattle.format.specs.Lists.{over}
 use Rattle.laws.specs.Rows.{fixups_in}
 use Rattle.grouped.specs.Group.{areas_for, room_for, Regrouped}
-use Rattle.grouped.specs.declared.Grouped.{Grouped}
+use Rattle.std.specs.Prelude.{Option}
 use Rattle.layout.specs.Out.{most, FixupsOut, TablesOut, ImagesOut}
 
--- `at_most`
-module _ (m n : ℕ) where
-  pub most-all : n ≤ m → n ≡ most m n
-  unfolding most
-  most-all h = rw (le-leb n m h)
-
-  pub most-most : m < n → m ≡ most m n
-  unfolding most
-  most-most h = rw (lt-leb n m h)
-
 -- rows out
-pub fixups-out : {k : ℕ} (kept : ℕ) {n : ℕ} {rows out out' : List ℕ} {r : Grouped} → n ≡ most 64 kept → Regrouped k n rows out r out' → FixupsOut k kept rows out out'
+pub fixups-out : {k : ℕ} (kept : ℕ) {n : ℕ} {rows out out' : List ℕ} {r : Option ℕ} → n ≡ most 64 kept → Regrouped k n rows out r out' → FixupsOut k kept rows out out'
 fixups-out kept e w = record { stored = rw (← e) w.stored }
 
 pub tables-out : (na ns : ℕ) {a s : ℕ} {xs ys areas symbols areas' symbols' : List ℕ} → a ≡ most 64 na → s ≡ most 1024 ns → areas' ≡ sets areas 0 (take (7 * a) xs) → symbols' ≡ sets symbols 0 (take (5 * s) ys)
@@ -35,7 +25,7 @@ pub images-out : {positions k kept : ℕ} {vs ms rows values masks fixups values
     → FixupsOut k kept rows fixups fixups' → ImagesOut positions k kept vs ms rows values masks fixups values' masks' fixups'
 images-out a b c = record { of_values = a; of-masks = b; of-fixups = c }
 
-pub ruleset outs = (rules, most-all, most-most, fixups-out, tables-out, images-out)
+pub ruleset outs = (rules, fixups-out, tables-out, images-out)
 
 -- for a caller that lends rows and room
 pub fixups-laid : {k kept : ℕ} {rows fixups fixups' : List ℕ} → FixupsOut k kept rows fixups fixups' → 9 * k ≤ length rows → 9 * k ≤ length fixups → kept ≤ 64

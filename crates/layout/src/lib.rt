@@ -1,35 +1,18 @@
 // What was read, laid over lent buffers: the rows of areas and symbols, the images, and the fixup rows area by area.
 #![tactic(auto)]
 
-ghost use Rattle.std.specs.Prelude.{◌≡◌, ◌≤◌, take};
-ghost use Rattle.std.proofs.lemmas.List.Edits.{sets};
+ghost use Rattle.std.specs.Prelude.{◌≡◌, ◌≤◌};
 ghost use Rattle.layout.specs.Out.{most, FixupsOut, TablesOut, ImagesOut};
 
+use cells::{copy_bytes, copy_u32s};
 use rooms::{AREA_ROOM, AREA_WIDTH, FIXUP_ROOM, SYMBOL_WIDTH};
 
 // At most so many.
+#[tactic(auto, unfolding(crate::specs::Out::most))]
 fn at_most(m: usize, n: usize) -> usize
     ensures { (result ≡ most m n) × (result ≤ m) }
 {
-    if n <= m { n } else { m }
-}
-
-fn copy_areas(dst: &mut [u32], src: &[u32; AREA_ROOM], n: usize)
-    ensures { dst.new ≡ sets dst.old 0 (take n src.now) }
-{
-    cells::copy_u32s(dst, 0, src, n)
-}
-
-fn copy_symbols(dst: &mut [u32], src: &[u32], n: usize)
-    ensures { dst.new ≡ sets dst.old 0 (take n src.now) }
-{
-    cells::copy_u32s(dst, 0, src, n)
-}
-
-fn copy_image(dst: &mut [u8], src: &[u8], n: usize)
-    ensures { dst.new ≡ sets dst.old 0 (take n src.now) }
-{
-    cells::copy_bytes(dst, 0, src, n)
+    n.min(m)
 }
 
 // The first k fixup rows, area by area; nothing where there are not as many, or no room for them.
@@ -53,8 +36,8 @@ pub fn lay_tables(
 {
     let a = at_most(64, na);
     let s = at_most(1024, ns);
-    copy_areas(areas, xs, AREA_WIDTH * a);
-    copy_symbols(symbols, ys, SYMBOL_WIDTH * s)
+    copy_u32s(areas, 0, xs, AREA_WIDTH * a);
+    copy_u32s(symbols, 0, ys, SYMBOL_WIDTH * s)
 }
 
 // The images of so many positions, and k fixup rows of so many kept areas.
@@ -71,7 +54,7 @@ pub fn lay_images(
 )
     ensures { ImagesOut positions k kept vs.now ms.now rows.now values.old masks.old fixups.old values.new masks.new fixups.new }
 {
-    copy_image(values, vs, positions);
-    copy_image(masks, ms, positions);
+    copy_bytes(values, 0, vs, positions);
+    copy_bytes(masks, 0, ms, positions);
     copy_fixups(fixups, rows, k, kept)
 }

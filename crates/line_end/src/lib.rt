@@ -13,8 +13,5 @@ pub fn runs_past(end: usize, class: JumpType, three: bool, entry: usize) -> bool
     ensures { result ≡ ltb end (entry + touched_of (told_class class) three) }
 {
     let n = touched(class, three);
-    if end < n {
-        return true;
-    }
-    end - n < entry
+    end < n || end - n < entry
 }

@@ -20,10 +20,7 @@ pub enum LineStep {
 pub fn whole(used: usize, n: usize, e: usize) -> bool
     ensures { result ≡ (eqb used n && leb 1 e) }
 {
-    if used == n {
-        return 1 <= e;
-    }
-    false
+    used == n && 1 <= e
 }
 
 // What a line of n bytes does of which so many were used, up to a place; its line end has e bytes, and behind it the next line begins.

@@ -12,7 +12,7 @@ use Rattle.digits.specs.Capitals.{capitals}
 use Rattle.list_bytes.specs.Last.{last_byte}
 
 -- `put_byte`: a store past the room changes nothing
-pub put-past : (l : List ℕ) (i b : ℕ) → length l ≤ i → l ≡ set l i b
+pub put-past : {A : Type 0} (l : List A) (i : ℕ) (b : A) → length l ≤ i → l ≡ set l i b
 put-past l i b h = sym (set_out l i b h)
 
 pub ruleset putting = (rules, put-past)

@@ -4,12 +4,12 @@
 ghost use Rattle.std.specs.Prelude.{◌≡◌, set};
 ghost use Rattle.list_bytes.specs.Last.{last_byte};
 
-// A byte into its place of what was lent; past the end nothing is written.
-pub fn put_byte(out: &mut [u8], i: usize, b: u8)
-    ensures { out.new ≡ set out.old i b }
+// A thing into its place of what was lent; past the end nothing is written.
+pub fn put<T: Copy>(out: &mut [T], i: usize, x: T)
+    ensures { out.new ≡ set out.old i x }
 {
     if i < out.len() {
-        out[i] = b;
+        out[i] = x;
     }
 }
 

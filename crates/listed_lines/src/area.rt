@@ -1,7 +1,6 @@
 // The lines of kept areas.
 use crate::{fixup, symbol};
 use answer::Counts;
-use kept_areas::Id;
 use rooms::{AREA_ROOM, FIXUP_ROOM, IMAGE_ROOM, SYMBOL_ROOM};
 use sink::{Buffer, Sink};
 
@@ -33,11 +32,9 @@ fn row_start(s: Sink, out: &mut Buffer, position: usize) -> Sink {
 // The rows of an area's image: eight positions a row, each its value and its mask.
 fn image(s: Sink, out: &mut Buffer, values: &[u8], masks: &[u8]) -> Sink {
     let mut now = s;
-    let mut i = 0;
-    while i < values.len() {
+    for i in 0..values.len() {
         let begun = row_start(now, out, i);
         now = area_line::position(begun, out, values, masks, i);
-        i += 1;
     }
     sink::put(now, out, b"\n")
 }
@@ -72,8 +69,8 @@ fn area(
     fixups: &[u32],
 ) -> Sink {
     match kept_areas::area_id(areas, counts.areas, i) {
-        Id::Unkept => s,
-        Id::Kept { id } => {
+        None => s,
+        Some(id) => {
             let s1 = code(s, out, areas, counts.areas, i, values, masks);
             let s2 = symbol::lines(s1, out, text, symbols, counts.symbols, i);
             fixup::lines(s2, out, text, fixups, counts.fixups, id)
@@ -94,13 +91,10 @@ pub fn area_lines(
     fixups: &[u32; FIXUP_ROOM],
 ) -> Sink {
     let mut now = s;
-    let mut i = 0;
-    let n = counts.areas;
-    while i < n {
+    for i in 0..counts.areas {
         now = area(
             now, out, text, counts, i, areas, symbols, values, masks, fixups,
         );
-        i += 1;
     }
     now
 }

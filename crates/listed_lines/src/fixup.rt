@@ -11,17 +11,14 @@ pub(crate) fn lines(
     id: usize,
 ) -> Sink {
     let range = fixup_rows::area_fixups(fixups, n, id);
-    let end = range.end;
     let mut now = s;
-    let mut j = range.start;
-    while j < end {
+    for j in range.start..range.end {
         now = fixup_line::line(
             now,
             out,
             fixup_rows::fixup_at(fixups, j),
             fixup_rows::fixup_name(text, fixups, j),
         );
-        j += 1;
     }
     now
 }

@@ -24,12 +24,9 @@ pub(crate) fn lines(
     area: usize,
 ) -> Sink {
     let range = symbol_rows::area_symbols(symbols, n, area);
-    let end = range.end;
     let mut now = s;
-    let mut j = range.start;
-    while j < end {
+    for j in range.start..range.end {
         now = line(now, out, text, symbols, j);
-        j += 1;
     }
     now
 }

@@ -77,10 +77,7 @@ fn list_arguments(
 
 // Whether the arguments from one on name nothing; the options end before argument `end`.
 fn names_nothing(first: usize, end: usize, count: usize) -> bool {
-    if count <= first {
-        return true;
-    }
-    count - first == 1 && end == first
+    count <= first || count - first == 1 && end == first
 }
 
 // Lists by the arguments, or standard input where they name nothing.
@@ -118,13 +115,10 @@ pub(crate) fn run(rt: &impl Host, ended: bool) {
     let mut out = io::large_buffer();
     let count = host::argument_count(rt);
     let why = ended && console::asks_why(rt, count);
+    let first = if why { 2 } else { 1 };
     let how = How {
         ended: ended,
         why: why,
     };
-    if why {
-        answered(rt, how, &mut out, 2, count)
-    } else {
-        answered(rt, how, &mut out, 1, count)
-    }
+    answered(rt, how, &mut out, first, count)
 }

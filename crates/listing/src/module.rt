@@ -90,13 +90,13 @@ fn place_of(verdict: answer::Verdict, n: usize) -> usize {
 // What the plain reading of n bytes gave.
 fn of_plain(answer: answer::Answer, n: usize) -> Given {
     match answer {
-        answer::Answer::Refusal { number, place } => Given::Refused {
-            number: number,
-            place: place,
+        Err(refusal) => Given::Refused {
+            number: refusal.number,
+            place: refusal.place,
         },
-        answer::Answer::Accepted { counts, verdict } => Given::Plain {
-            counts: counts,
-            place: place_of(verdict, n),
+        Ok(told) => Given::Plain {
+            counts: told.counts,
+            place: place_of(told.verdict, n),
         },
     }
 }

@@ -1,7 +1,7 @@
 // Where texts come from: standard input, which is called `-`, and files by name.
 use crate::how::How;
 use crate::module;
-use console::{Input, Room};
+use console::Room;
 use host::{Failure, Host};
 use rooms::INPUT_ROOM;
 use sink::{Buffer, Sink};
@@ -32,8 +32,8 @@ fn list_input(
 ) -> Sink {
     let mut room = [0u8; INPUT_ROOM];
     match console::fill(reader, &mut room) {
-        Input::Failed(why) => console::complain(s, out, name, why),
-        Input::Text(n) => {
+        Err(why) => console::complain(s, out, name, why),
+        Ok(n) => {
             let t = title(s, out, name, titled);
             list_first(how, t, out, &room, n, name)
         }
@@ -47,12 +47,12 @@ pub(crate) fn list_standard(rt: &impl Host, how: How, s: Sink, out: &mut Buffer)
 
 // Whether a file's name stands for standard input.
 fn is_standard(file: &[u8]) -> bool {
-    file.len() == 1 && cells::byte_at(file, 0) == b'-'
+    matches!(file, b"-")
 }
 
 // Tells why a file cannot be opened.
 fn unopened(s: Sink, out: &Buffer, name: &[u8], why: Failure) -> Sink {
-    if name.len() == 0 {
+    if name.is_empty() {
         return console::complain(s, out, b"(empty name)", why);
     }
     console::complain(s, out, name, why)

@@ -4,12 +4,11 @@
 
 ghost use Rattle.std.specs.Prelude.{◌≡◌};
 ghost use Rattle.format.specs.Number.{next_byte};
-ghost use Rattle.digits.specs.Capitals.{Hex};
 ghost use Rattle.numbers.specs.Told.{told};
 ghost use Rattle.lists.specs.Many.{BytesRead, BytesBegun};
 ghost use Rattle.lists.specs.Reach.{Reach};
 
-use numbers::Num;
+use numbers::{Halt, Parsed, Reason};
 
 // How many things were read one after another, and the place behind them.
 #[derive(Clone, Copy)]
@@ -41,21 +40,8 @@ fn reach_of(t: &[u8], at: usize, radix: u8) -> usize
     last
 }
 
-// What a byte is worth as a capital digit of radix 16, or a number above 15 where it is none. Each digit is tested by itself, so that a byte takes no test more.
-fn hex_of(b: u8) -> u64
-    ensures { Hex b result }
-{
-    let x = b as u64;
-    if x < 58 {
-        return std::num::wrapping_sub_u64(x, 48);
-    }
-    if x < 65 {
-        return x;
-    }
-    x - 55
-}
-
 // The first bytes of a list, as many as stand there as one space, two capital digits of radix 16 and the space of the next or the end of the text.
+// Each digit is tested by itself, so that a byte takes no test more.
 fn begin_bytes(t: &[u8], at: usize, radix: u8, out: &mut [u8; 256]) -> Run
     ensures { BytesBegun radix t.now at result out.old out.new }
 {
@@ -63,8 +49,8 @@ fn begin_bytes(t: &[u8], at: usize, radix: u8, out: &mut [u8; 256]) -> Run
     let mut n = 0;
     let mut p = at;
     while p < last {
-        let d = hex_of(t[p + 1]);
-        let e = hex_of(t[p + 2]);
+        let d = digits::hex_of(t[p + 1]);
+        let e = digits::hex_of(t[p + 2]);
         if 15 < d {
             return Run { count: n, end: p };
         }
@@ -80,7 +66,7 @@ fn begin_bytes(t: &[u8], at: usize, radix: u8, out: &mut [u8; 256]) -> Run
     }
     let v = list_bytes::last_byte(t, p, radix);
     if v < 256 {
-        list_bytes::put_byte(out, n, v as u8);
+        list_bytes::put(out, n, v as u8);
         return Run {
             count: n + 1,
             end: p + 3,
@@ -90,11 +76,14 @@ fn begin_bytes(t: &[u8], at: usize, radix: u8, out: &mut [u8; 256]) -> Run
 }
 
 // One or more blanks, and a byte. Behind the end nothing is looked for.
-fn following(t: &[u8], at: usize, radix: u8) -> Num
+fn following(t: &[u8], at: usize, radix: u8) -> Parsed<u32>
     ensures { told result ≡ next_byte radix t.now at }
 {
     if t.len() <= at {
-        return Num::No { reason: 4, at: at };
+        return Err(Halt {
+            reason: Reason::Other,
+            at,
+        });
     }
     quick_numbers::next_byte(t, at, radix)
 }
@@ -104,17 +93,16 @@ pub fn parse_byte_many(t: &[u8], at: usize, radix: u8, out: &mut [u8; 256]) -> R
     ensures { BytesRead radix t.now at result out.old out.new }
 {
     let begun = begin_bytes(t, at, radix, out);
-    let mut n = begun.count;
     let mut p = begun.end;
-    let mut k = t.len() - n;
-    while 0 < k {
-        let Num::Is { value, next } = following(t, p, radix) else {
+    for n in begun.count..t.len() {
+        let Ok(b) = following(t, p, radix) else {
             return Run { count: n, end: p };
         };
-        list_bytes::put_byte(out, n, value as u8);
-        n += 1;
-        p = next;
-        k -= 1;
+        list_bytes::put(out, n, b.value as u8);
+        p = b.next;
     }
-    Run { count: n, end: p }
+    Run {
+        count: t.len(),
+        end: p,
+    }
 }

@@ -22,10 +22,7 @@ pub enum Found {
 pub fn home_fits(home: Home, line: Line, filled: Filled, lent: usize, room: usize) -> bool
     ensures { result ≡ (eqb home.area line.area && (line_fits line lent && filled_fits filled room)) }
 {
-    if home.area != line.area {
-        return false;
-    }
-    counts_fit(line, filled, lent, room)
+    home.area == line.area && counts_fit(line, filled, lent, room)
 }
 
 // The site of a pair at a home that has an id.
@@ -44,13 +41,11 @@ fn site_of(home: Home, line: Line, filled: Filled) -> Site
 }
 
 // Whether the image ends within 65,536 positions.
+#[tactic(auto, unfolding(crate::specs::Site::image_fits))]
 fn image_fits(site: Site) -> bool
     ensures { result ≡ image_fits site.start site.size }
 {
-    if IMAGE_ROOM < site.start {
-        return false;
-    }
-    site.start + wide(site.size) <= IMAGE_ROOM
+    site.start <= IMAGE_ROOM && site.start + wide(site.size) <= IMAGE_ROOM
 }
 
 // Where a pair goes: nowhere, since its area is not kept; not where the numbers do not fit; or to a site.

@@ -13,10 +13,8 @@ fn line(s: Sink, out: &mut Buffer, book: &[u8], i: u32) -> Sink {
 // The lines of all entries.
 pub(crate) fn tell(out: &mut Buffer, book: &[u8], n: u32) {
     let mut now = sink::new();
-    let mut i: u32 = 0;
-    while i < n {
+    for i in 0..n {
         now = line(now, out, book, i);
-        i += 1;
     }
     sink::flush(now, out);
 }

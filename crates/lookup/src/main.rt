@@ -5,8 +5,6 @@ mod contents;
 mod pattern;
 mod told;
 
-use book_open::Opened;
-use bulk::Input;
 use host::Host;
 use sink::Buffer;
 use std::env::Env;
@@ -30,8 +28,8 @@ fn look(rt: &impl Env, out: &mut Buffer, book: &[u8], i: usize) {
 // Tells what is asked for of a book that is opened.
 fn answer(rt: &impl Env, out: &mut Buffer, book: &[u8], count: usize) {
     match book_open::open_book(book) {
-        Opened::Refused { number, place } => told::refused(out, number as usize, place),
-        Opened::Book { entries } => {
+        Err(why) => told::refused(out, usize::from(why.number), why.place),
+        Ok(entries) => {
             if count < 3 {
                 contents::tell(out, book, entries)
             } else {
@@ -45,8 +43,8 @@ fn answer(rt: &impl Env, out: &mut Buffer, book: &[u8], count: usize) {
 fn read(rt: &impl Env, room: &mut Room, reader: &mut impl Read, file: &[u8], count: usize) {
     let mut out = io::large_buffer();
     match bulk::fill(reader, room) {
-        Input::Failed(why) => console::tell_reason(file, why),
-        Input::Text(n) => {
+        Err(why) => console::tell_reason(file, why),
+        Ok(n) => {
             if ROOM <= n {
                 console::tell_words(file, b"longer than 2097152 bytes");
                 return;

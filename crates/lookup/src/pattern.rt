@@ -1,6 +1,5 @@
 // A pattern as rows of the listing.
 use crate::told;
-use book_find::Found;
 use sink::{Buffer, Sink};
 
 // What stands in front of a position: at every eighth a new row begins with its number.
@@ -17,11 +16,9 @@ fn row_start(s: Sink, out: &mut Buffer, position: usize) -> Sink {
 // The rows: eight positions a row, each its value and its mask.
 fn rows(s: Sink, out: &mut Buffer, values: &[u8], masks: &[u8]) -> Sink {
     let mut now = s;
-    let mut i = 0;
-    while i < values.len() {
+    for i in 0..values.len() {
         let begun = row_start(now, out, i);
         now = area_line::position(begun, out, values, masks, i);
-        i += 1;
     }
     sink::put(now, out, b"\n")
 }
@@ -29,10 +26,10 @@ fn rows(s: Sink, out: &mut Buffer, values: &[u8], masks: &[u8]) -> Sink {
 // The pattern of a name, or 23.
 pub(crate) fn tell(out: &mut Buffer, book: &[u8], name: &[u8]) {
     match book_find::find_name(book, name) {
-        Found::Missing => told::refused(out, 23, 0),
-        Found::At { place, size } => {
-            let values = book_read::values_of(book, place, size);
-            let masks = book_read::masks_of(book, place, size);
+        None => told::refused(out, 23, 0),
+        Some(found) => {
+            let values = book_read::values_of(book, found.place, found.size);
+            let masks = book_read::masks_of(book, found.place, found.size);
             let s = rows(sink::new(), out, values, masks);
             sink::flush(s, out);
         }

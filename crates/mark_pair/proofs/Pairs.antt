@@ -27,15 +27,14 @@ use Rattle.located.specs.declared.Found.{Found}
 use Rattle.located.specs.declared.Found.TheVariants as at
 use Rattle.located.specs.Site.{image_fits, site_at, found_by, found, kept_fits}
 use Rattle.located.proofs.Sites.{Sited, sited, unkept-by, misfit-by}
-use Rattle.work.specs.declared.Worked.{Worked}
-use Rattle.work.specs.declared.Worked.TheVariants as worked
+use Rattle.std.specs.Prelude.{Option as Answer, Some, None}
 use Rattle.work.specs.Work.{form_of, line_of, all_turns, Whole, WorkIs}
 use Rattle.work.proofs.Use.{merged, whole_by}
 use Rattle.one_cell.specs.Cell.{cell_fits, site_work}
 use Rattle.mark_pair.specs.Marks.{mark_walk, marked_by, marked_in, or_before, EntriesMark, SiteMarks, PairMarks}
 
 -- `mark_at_site`: q is what the work line answered
-module _ (s : Site) (bs ms es old : List ℕ) (ready : Ready s) (lent : s.line.bytes ≤ length bs) {wv₀ wm₀ wk₀ ns₀ : List ℕ} {q : Worked} {wv wm wk ns : List ℕ}
+module _ (s : Site) (bs ms es old : List ℕ) (ready : Ready s) (lent : s.line.bytes ≤ length bs) {wv₀ wm₀ wk₀ ns₀ : List ℕ} {q : Answer ℕ} {wv wm wk ns : List ℕ}
     (work : WorkIs s.line bs ms es wv₀ wm₀ wk₀ ns₀ q wv wm wk ns) where
   t : Whole (all_turns s.line ms es (fresh s.line.width (take s.line.bytes bs))) s.line.fragments q wv wm wk ns
   t = whole_by work (line-true ready.line lent)
@@ -48,10 +47,10 @@ module _ (s : Site) (bs ms es old : List ℕ) (ready : Ready s) (lent : s.line.b
       (λ d. fine (mark_walk s.start s.size d.work.keeps (s.line.width + s.line.bytes) 0 s.line.address old))
       ∙ ap (λ (p : Outcome defs.Worked). and_then p (λ d. fine (mark_walk s.start s.size d.work.keeps (s.line.width + s.line.bytes) 0 s.line.address old))) (sym e)
 
-  pub site-beyond : q ≡ worked.Beyond → SiteMarks s bs ms es old old
+  pub site-beyond : q ≡ None → SiteMarks s bs ms es old old
   site-beyond g = record { says = λ xs radix. ap (or_before old) (sym (by-work xs radix _ (rw g at (t.says xs s.line.place)))) }
 
-  pub site-marked : {n : ℕ} → q ≡ worked.Numbers n → {new : List ℕ} → EntriesMark s wk old new → SiteMarks s bs ms es old new
+  pub site-marked : {n : ℕ} → q ≡ Some n → {new : List ℕ} → EntriesMark s wk old new → SiteMarks s bs ms es old new
   unfolding line_of
   site-marked g a = record { says = λ xs radix. a.says ∙ ap (or_before old) (sym (by-work xs radix _ (rw g at (t.says xs s.line.place)))) }
 

@@ -10,7 +10,7 @@ use homes::Home;
 use located::{Found, home_fits, locate};
 use rooms::FIXUP_ROOM;
 use sites::{Filled, Line, Site};
-use work::{Worked, work_line};
+use work::work_line;
 
 // The entry e at the position p, if it is kept. Answers by how much the position grows.
 fn mark_entry(wk: &[u8], e: u32, start: usize, p: u32, map: &mut [u8]) -> u32
@@ -30,14 +30,12 @@ fn mark_entries(site: Site, wk: &[u8; 260], map: &mut [u8])
     ensures { EntriesMark site wk.now map.old map.new }
 {
     let n = (site.line.width + site.line.bytes) as u32;
-    let mut e: u32 = 0;
     let mut p = site.line.address;
-    while e < n {
+    for e in 0..n {
         if site.size <= p {
             return;
         }
         p += mark_entry(wk, e, site.start, p, map);
-        e += 1;
     }
 }
 
@@ -51,11 +49,10 @@ fn mark_at_site(site: Site, bs: &[u8], ms: &[u32], es: &[u32], map: &mut [u8])
     let mut wm = [0; 260];
     let mut wk = [0; 260];
     let mut ns = [0; 64];
-    let worked = work_line(site.line, bs, ms, es, &mut wv, &mut wm, &mut wk, &mut ns);
-    let Worked::Numbers(_) = worked else {
-        return;
-    };
-    mark_entries(site, &wk, map)
+    match work_line(site.line, bs, ms, es, &mut wv, &mut wm, &mut wk, &mut ns) {
+        Some(_) => mark_entries(site, &wk, map),
+        None => {}
+    }
 }
 
 // What one T and R pair writes, given the home of its area. A pair of an area that is not kept marks nothing, and so does one with another area's home.

@@ -3,12 +3,11 @@
 use Prim.Native.Nat.{ℕ}
 use mathlib.Core.Path.{◌≡◌, refl, ap, sym, ◌∙◌}
 use native.Mathlib.Omega.{arith}
+use Rattle.std.specs.Prelude.{Option as Answer, Some, None}
 use Rattle.format.specs.Mode.{Addr11, Addr16, Addr19, Addr24, Byte, Class, Other}
 use Rattle.mode.specs.Class.{told_class, told_jump}
 use Rattle.mode.specs.declared.class.JumpType.{JumpType}
 use Rattle.mode.specs.declared.class.JumpType.TheVariants as jump
-use Rattle.mode.specs.declared.class.Jump.{Jump}
-use Rattle.mode.specs.declared.class.Jump.TheVariants.{Of, Over}
 
 -- the case that a class is told by
 named : Class → JumpType
@@ -33,10 +32,10 @@ pub one_class : (a b : JumpType) → told_class a ≡ told_class b → a ≡ b
 one_class a b e = sym (named-told a) ∙ (ap named e ∙ named-told b)
 
 -- `get_jump_type`
-pub one-jump : (a b : Jump) → told_jump a ≡ told_jump b → a ≡ b
-one-jump (Of x) (Of y) e =
+pub one-jump : (a b : Answer JumpType) → told_jump a ≡ told_jump b → a ≡ b
+one-jump (Some x) (Some y) e =
     let q : told_class x ≡ told_class y = cc in
-    ap Of (one_class x y q)
-one-jump (Of x) Over e = absurd (let z : ◌≡◌ {A = ℕ} 0 1 = cc in omega arith)
-one-jump Over (Of y) e = absurd (let z : ◌≡◌ {A = ℕ} 0 1 = cc in omega arith)
-one-jump Over Over e = refl
+    ap Some (one_class x y q)
+one-jump (Some x) None e = absurd (let z : ◌≡◌ {A = ℕ} 0 1 = cc in omega arith)
+one-jump None (Some y) e = absurd (let z : ◌≡◌ {A = ℕ} 0 1 = cc in omega arith)
+one-jump None None e = refl

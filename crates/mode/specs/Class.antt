@@ -1,14 +1,12 @@
 -- What the code's answers about classes stand for, and the table of the 2,048 modes as a list.
 -- Assumes nothing.
-use Rattle.std.specs.Prelude.{ℕ, List, eqb, ltb}
+use Rattle.std.specs.Prelude.{ℕ, List, Option as Answer, Some, None, eqb, ltb}
 use Rattle.std.proofs.Math.Option.{Option, none, some}
 use Rattle.format.specs.Lists.{pick}
 use Rattle.format.specs.Mode.{Addr11, Addr16, Addr19, Addr24, Byte, Class, Other, class_number_of, class_of}
 use Rattle.laws.specs.Tab.{tab}
 use Rattle.mode.specs.declared.class.JumpType.{JumpType}
 use Rattle.mode.specs.declared.class.JumpType.TheVariants as jump
-use Rattle.mode.specs.declared.class.Jump.{Jump}
-use Rattle.mode.specs.declared.class.Jump.TheVariants.{Of, Over}
 
 -- the class that each case names
 abbrev pub told_class : JumpType → Class
@@ -20,9 +18,9 @@ told_class jump.Byte = Byte
 told_class jump.Other = Other
 
 -- the class, or none for a mode over 2,047
-abbrev pub told_jump : Jump → Option Class
-told_jump (Of c) = some (told_class c)
-told_jump Over = none
+abbrev pub told_jump : Answer JumpType → Option Class
+told_jump (Some c) = some (told_class c)
+told_jump None = none
 
 unfoldable pub jump_of : ℕ → Option Class
 jump_of m = pick (ltb m 2048) (some (class_of m)) none

@@ -6,6 +6,7 @@ ghost use Rattle.mode.specs.Class.{told_class};
 use crate::class::JumpType;
 
 // The class that the bits 0, 3, 7 and 8 of a mode decide.
+#[tactic(auto, unfolding(format::specs::Mode::class_of, format::specs::Mode::bit))]
 pub fn class_of(mode: u32) -> JumpType
     ensures { told_class result ≡ class_of mode }
 {

@@ -1,5 +1,6 @@
 // The class of a mode as a table of all 2,048 modes has it, and of one mode by its bits.
 ghost use Rattle.std.specs.Prelude.{◌≡◌, ◌%◌, get_or};
+ghost use Rattle.format.specs.Mode.{class_number};
 ghost use Rattle.mode.specs.Class.{class_table, class_named, told_class, jump_of, told_jump};
 
 use crate::bits::class_of;
@@ -16,13 +17,6 @@ pub enum JumpType {
     Other,
 }
 
-// The class of a mode, or that there is no such mode.
-#[derive(Clone, Copy)]
-pub enum Jump {
-    Of(JumpType),
-    Over,
-}
-
 // The class numbers of the modes 0 to 2,047, to be lent.
 pub fn class_table() -> [u8; 2048]
     ensures { result ≡ class_table }
@@ -30,7 +24,22 @@ pub fn class_table() -> [u8; 2048]
     CLASSES
 }
 
+// The number of a class, as the table has it.
+pub fn class_number(class: JumpType) -> u8
+    ensures { result ≡ class_number (told_class class) }
+{
+    match class {
+        JumpType::Addr19 => 0,
+        JumpType::Addr11 => 1,
+        JumpType::Addr24 => 2,
+        JumpType::Addr16 => 3,
+        JumpType::Byte => 4,
+        JumpType::Other => 5,
+    }
+}
+
 // The class that a number of the table names.
+#[tactic(auto, unfolding(crate::specs::Class::class_named))]
 fn class_named(number: u8) -> JumpType
     ensures { told_class result ≡ class_named number }
 {
@@ -52,12 +61,14 @@ pub fn class_in(table: &[u8; 2048], mode: u32) -> JumpType
     class_named(table[i])
 }
 
-// The class of a mode, or Over for a mode over 2,047.
-pub fn get_jump_type(mode: u16) -> Jump
+// The class of a mode, or none for a mode over 2,047.
+#[tactic(auto, unfolding(crate::specs::Class::jump_of))]
+pub fn get_jump_type(mode: u16) -> Option<JumpType>
     ensures { told_jump result ≡ jump_of mode }
 {
-    if 2048 <= mode {
-        return Jump::Over;
+    if mode < 2048 {
+        Some(class_of(u32::from(mode)))
+    } else {
+        None
     }
-    Jump::Of(class_of(mode as u32))
 }

@@ -6,4 +6,4 @@ mod class;
 mod classes;
 
 pub use bits::class_of;
-pub use class::{Jump, JumpType, class_in, class_table, get_jump_type};
+pub use class::{JumpType, class_in, class_number, class_table, get_jump_type};

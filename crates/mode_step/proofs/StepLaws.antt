@@ -9,7 +9,8 @@ use native.Mathlib.Omega.{arith}
 use lib.Dec.{lit≤}
 use lib.ListN.{get_or, length, set, take}
 use borrow.Author.Rules.{rules}
-use borrow.Author.Tests.{le-leb, le-ltb, lt-leb, lt-ltb, ne_eqb}
+use borrow.Author.Tests.{le-leb, le-ltb, lt-ltb, ne_eqb}
+use Rattle.std.specs.Prelude.{Option as Answer, Some}
 use Rattle.format.specs.Lists.{over, pick}
 use Rattle.format.specs.Number.{join}
 use Rattle.format.specs.Mode.{Addr11, Addr16, Addr19, Addr24, Byte, Class, Other, touched_of}
@@ -17,8 +18,6 @@ use Rattle.format.specs.ModeStep.{fronted, keeps_by, masks_by, number_by_of, val
 use Rattle.laws.specs.Tab as tab
 use Rattle.laws.proofs.Fill.{over-step}
 use Rattle.class_rows.specs.declared.row.Row.{Row}
-use Rattle.mode_step.specs.declared.step.Step.{Step}
-use Rattle.mode_step.specs.declared.step.Step.TheVariants.{Number, Short}
 use Rattle.class_rows.specs.Row.{row_of}
 use Rattle.mode_step.specs.Step.{Laid, LaidAt, Laying, TwoLaid, Lain, Modified, Room, cell, fits, opcode_of}
 
@@ -146,33 +145,16 @@ touches c three e = rw e (go c three)
     go Other true = (lit≤ tt, lit≤ tt)
     go Other false = (lit≤ tt, lit≤ tt)
 
--- the answers: a part that is too short, or the step
+-- the step, where no part is too short
 module _ (c : Class) (three big : Bool) (vs ms ks : List ℕ) {t : ℕ} (e : t ≡ touched_of c three) where
-  changes-nothing : fits c three vs ms ks ≡ false → Modified c three big Short vs ms ks vs ms ks
-  changes-nothing f = record { number = rw f; values = rw f; masks = rw f; keeps = rw f }
-
-  pub short-values : length vs < t → Modified c three big Short vs ms ks vs ms ks
-  unfolding fits
-  short-values h = changes-nothing (simp (lt-leb (touched_of c three) (length vs) (rw e at h)))
-
-  pub short-masks : t ≤ length vs → length ms < t → Modified c three big Short vs ms ks vs ms ks
-  unfolding fits
-  short-masks hv h = changes-nothing (simp (le-leb (touched_of c three) (length vs) (rw e at hv), lt-leb (touched_of c three) (length ms) (rw e at h)))
-
   module _ (hv : t ≤ length vs) (hm : t ≤ length ms) where
-    pub short-keeps : length ks < t → Modified c three big Short vs ms ks vs ms ks
-    unfolding fits
-    short-keeps h =
-        changes-nothing
-        (simp (le-leb (touched_of c three) (length vs) (rw e at hv), le-leb (touched_of c three) (length ms) (rw e at hm), lt-leb (touched_of c three) (length ks) (rw e at h)))
-
     module _ (hk : t ≤ length ks) where
       fits_all : fits c three vs ms ks ≡ true
       unfolding fits
       fits_all =
           simp (le-leb (touched_of c three) (length vs) (rw e at hv), le-leb (touched_of c three) (length ms) (rw e at hm), le-leb (touched_of c three) (length ks) (rw e at hk))
 
-      pub steps : {row : Row} {n : ℕ} {vs' ms' ks' : List ℕ} → row ≡ row_of c → Laid row t big n vs ms ks vs' ms' ks' → Modified c three big (Number n) vs ms ks vs' ms' ks'
+      pub steps : {row : Row} {n : ℕ} {vs' ms' ks' : List ℕ} → row ≡ row_of c → Laid row t big n vs ms ks vs' ms' ks' → Modified c three big (Some n) vs ms ks vs' ms' ks'
       steps f l = let q = rw (f, e) at l in record {
         number = rw fits_all (rw q.number (rw (number_by big c vs)));
         values = rw fits_all (q.lain.values ∙ values-by c three vs);
@@ -193,7 +175,7 @@ module _ {c : Class} {three big : Bool} {vs ms ks vs' ms' ks' : List ℕ} where
   stepped_by true en ev em ek = record { number = cc; values = ev; masks = em; keeps = ek }
   stepped_by false en ev em ek = let z : ◌≡◌ {A = ℕ} 0 1 = cc in let y : ⊥ = omega arith in absurd y
 
-  pub stepped : {r : Step} {n : ℕ} → Modified c three big r vs ms ks vs' ms' ks' → r ≡ Number n → Stepped c three big n vs ms ks vs' ms' ks'
+  pub stepped : {r : Answer ℕ} {n : ℕ} → Modified c three big r vs ms ks vs' ms' ks' → r ≡ Some n → Stepped c three big n vs ms ks vs' ms' ks'
   stepped m e = let q = rw e at m in stepped_by (fits c three vs ms ks) q.number q.values q.masks q.keeps
 
-pub ruleset stepping = (rules, room, laid-at, cell_in, cell_out, opcode-stays, opcode-moves, laid, touches, short-values, short-masks, short-keeps, steps)
+pub ruleset stepping = (rules, room, laid-at, cell_in, cell_out, opcode-stays, opcode-moves, laid, touches, steps)

@@ -1,6 +1,6 @@
 -- What the mode step does to a lent part of the work line: the lists at exit, and the answer.
 -- Assumes nothing.
-use Rattle.std.specs.Prelude.{ℕ, min, ◌+◌, ◌-◌, ◌≤◌, Bool, ◌&&◌, List, ◌≡◌, eqb, leb, ltb, get_or, length, set, take}
+use Rattle.std.specs.Prelude.{ℕ, min, ◌+◌, ◌-◌, ◌≤◌, Bool, ◌&&◌, List, ◌≡◌, Option as Answer, Some, None, eqb, leb, ltb, get_or, length, set, take}
 use Rattle.std.proofs.Math.Option.{Option, none, some}
 use Rattle.format.specs.Lists.{pick}
 use Rattle.format.specs.Number.{join}
@@ -8,8 +8,6 @@ use Rattle.format.specs.Mode.{Class, touched_of}
 use Rattle.format.specs.ModeStep.{keeps_by, masks_by, number_by_of, values_by}
 use Rattle.laws.specs.Tab.{over}
 use Rattle.class_rows.specs.declared.row.Row.{Row}
-use Rattle.mode_step.specs.declared.step.Step.{Step}
-use Rattle.mode_step.specs.declared.step.Step.TheVariants.{Number, Short}
 
 -- v at the places below k, and 0 at the others
 abbrev pub cell : ℕ → ℕ → ℕ → ℕ
@@ -53,16 +51,16 @@ pub record Laid (row : Row) (t : ℕ) (big : Bool) (r : ℕ) (vs ms ks vs' ms' k
   pub lain : Lain (opcode_of row.mask t vs) row.mask row.size t vs ms ks vs' ms' ks'
 
 -- the number, or none where a part was too short
-abbrev pub told_step : Step → Option ℕ
-told_step (Number n) = some n
-told_step Short = none
+abbrev pub told_step : Answer ℕ → Option ℕ
+told_step (Some n) = some n
+told_step None = none
 
 -- whether each of three parts has the entries that a class touches
 unfoldable pub fits : Class → Bool → (vs ms ks : List ℕ) → Bool
 fits c three vs ms ks = leb (touched_of c three) (length vs) && (leb (touched_of c three) (length ms) && leb (touched_of c three) (length ks))
 
 -- the answer r and the three lists at exit: the mode step if the parts are long enough, and else nothing
-pub record Modified (c : Class) (three big : Bool) (r : Step) (vs ms ks vs' ms' ks' : List ℕ) : Type 0 where
+pub record Modified (c : Class) (three big : Bool) (r : Answer ℕ) (vs ms ks vs' ms' ks' : List ℕ) : Type 0 where
   pub number : told_step r ≡ pick (fits c three vs ms ks) (some (number_by_of big c vs)) none
   pub values : vs' ≡ pick (fits c three vs ms ks) (values_by c three vs) vs
   pub masks : ms' ≡ pick (fits c three vs ms ks) (masks_by c three ms) ms

@@ -3,4 +3,4 @@
 
 mod step;
 
-pub use step::{Step, modify_cmf_to_fixup};
+pub use step::modify_cmf_to_fixup;

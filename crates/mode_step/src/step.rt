@@ -7,13 +7,6 @@ use class_rows::{Row, row_of, touched};
 use joining::endian_to_number;
 use mode::JumpType;
 
-// The number that a step made, or that a lent part was too short for it.
-#[derive(Clone, Copy)]
-pub enum Step {
-    Number(u32),
-    Short,
-}
-
 // v in the first k places, and 0 behind them.
 fn cell_at(k: usize, v: u8, i: usize) -> u8
     ensures { result ≡ cell k v i }
@@ -109,7 +102,8 @@ fn step_row(
     number
 }
 
-// What a fragment does to its part of the work line: values, masks and kept flags from its entry on. Three says that bit 8 of its mode is set.
+// What a fragment does to its part of the work line, and the number that it made, or none where a part was too short: values, masks and kept flags from its entry on. Three says that bit 8 of its mode is set.
+#[tactic(auto, unfolding(crate::specs::Step::fits))]
 pub fn modify_cmf_to_fixup(
     class: JumpType,
     three: bool,
@@ -117,19 +111,13 @@ pub fn modify_cmf_to_fixup(
     values: &mut [u8],
     masks: &mut [u8],
     kept: &mut [u8],
-) -> Step
+) -> Option<u32>
     ensures { Modified (told_class class) three big result values.old masks.old kept.old values.new masks.new kept.new }
 {
     let t = touched(class, three);
-    if values.len() < t {
-        return Step::Short;
-    }
-    if masks.len() < t {
-        return Step::Short;
-    }
-    if kept.len() < t {
-        return Step::Short;
+    if values.len() < t || masks.len() < t || kept.len() < t {
+        return None;
     }
     let row = row_of(class);
-    Step::Number(step_row(row, t, big, values, masks, kept))
+    Some(step_row(row, t, big, values, masks, kept))
 }

@@ -19,14 +19,12 @@ fn named(name: &[u8], text: &[u8], symbols: &[u32], j: usize) -> bool
 fn searched(name: &[u8], text: &[u8], symbols: &[u32], n: usize) -> usize
     ensures { result ≡ first_of (named_at name.now text.now symbols.now) n }
 {
-    let mut j = 0;
-    while j < n {
+    for j in 0..n {
         if named(name, text, symbols, j) {
             return j;
         }
-        j += 1;
     }
-    j
+    n
 }
 
 // The first of n symbols that has this name, or n: the one that the index has at the name's place, if it has the name; else each is looked at.

@@ -29,10 +29,8 @@ fn note_all(text: &[u8], symbols: &[u32], n: usize, index: &mut [u32])
     requires { n ≤ 65536 }
     ensures { index.new ≡ index_from text.now symbols.now index.old 0 n }
 {
-    let mut j = 0;
-    while j < n {
+    for j in 0..n {
         note_symbol(text, symbols, j, index);
-        j += 1;
     }
 }
 

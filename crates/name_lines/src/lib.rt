@@ -1,7 +1,6 @@
 // The lines of a reader, one after the other, through two lent rooms. No more than they hold is kept, however long the input is.
 #![tactic(auto)]
 
-use bulk::Input;
 use host::Failure;
 use std::io::Read;
 
@@ -28,12 +27,11 @@ pub enum Line {
     Failed(Failure),
 }
 
-// A byte, the end, or an error.
+// A byte, and the cursor behind it.
 #[derive(Clone, Copy)]
-enum Step {
-    Byte { value: u8, next: Cursor },
-    End,
-    Failed(Failure),
+struct Byte {
+    value: u8,
+    next: Cursor,
 }
 
 // Nothing is read yet.
@@ -42,8 +40,8 @@ pub fn start() -> Cursor {
 }
 
 // The byte at the cursor.
-fn taken(block: &[u8], at: usize, end: usize) -> Step {
-    Step::Byte {
+fn taken(block: &[u8], at: usize, end: usize) -> Byte {
+    Byte {
         value: cells::byte_at(block, at),
         next: Cursor {
             at: sink::end_of(at, 1, end),
@@ -52,21 +50,14 @@ fn taken(block: &[u8], at: usize, end: usize) -> Step {
     }
 }
 
-// The next byte; the block is filled again where none is left in it.
-fn next_byte(reader: &mut impl Read, block: &mut [u8], c: Cursor) -> Step {
-    let at = c.at;
-    let end = c.end;
-    if at < end {
-        return taken(block, at, end);
+// The next byte, or none at the end; the block is filled again where none is left in it.
+fn next_byte(reader: &mut impl Read, block: &mut [u8], c: Cursor) -> Result<Option<Byte>, Failure> {
+    if c.at < c.end {
+        return Ok(Some(taken(block, c.at, c.end)));
     }
-    match bulk::fill(reader, block) {
-        Input::Failed(why) => Step::Failed(why),
-        Input::Text(n) => {
-            if n == 0 {
-                return Step::End;
-            }
-            taken(block, 0, n)
-        }
+    match bulk::fill(reader, block)? {
+        0 => Ok(None),
+        n => Ok(Some(taken(block, 0, n))),
     }
 }
 
@@ -91,18 +82,13 @@ fn last(n: usize, c: Cursor) -> Line {
 
 // The line at the cursor. The count of turns, which no input uses up, is there since a proved loop has to end.
 fn line_in(reader: &mut impl Read, block: &mut [u8], name: &mut [u8], c: Cursor) -> Line {
-    let mut turns = u64::MAX;
     let mut now = c;
     let mut n = 0;
-    while 0 < turns {
+    for _ in 0..u64::MAX {
         match next_byte(reader, block, now) {
-            Step::Failed(why) => {
-                return Line::Failed(why);
-            }
-            Step::End => {
-                return last(n, now);
-            }
-            Step::Byte { value, next } => {
+            Err(why) => return Line::Failed(why),
+            Ok(None) => return last(n, now),
+            Ok(Some(Byte { value, next })) => {
                 now = next;
                 if value == b'\n' {
                     return line_of(n, now);
@@ -111,7 +97,6 @@ fn line_in(reader: &mut impl Read, block: &mut [u8], name: &mut [u8], c: Cursor)
                 n = sink::end_of(n, 1, 4096);
             }
         }
-        turns -= 1;
     }
     Line::End
 }

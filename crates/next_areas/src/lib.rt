@@ -22,14 +22,12 @@ fn is_kept(areas: &[u32], i: usize) -> bool
 pub fn next_kept(areas: &[u32], n: usize, i: usize) -> usize
     ensures { result ≡ next_kept areas.now n i }
 {
-    let mut j = i;
-    while j < n {
+    for j in i..n {
         if is_kept(areas, j) {
             return j;
         }
-        j += 1;
     }
-    j
+    n.max(i)
 }
 
 // So many bytes from a place on, or as many of them as there are.

@@ -6,9 +6,28 @@ mod numbers;
 
 pub use numbers::{any_byte, any_next, any_number};
 
-// A number and the place behind it, or why and where it came to a halt.
+// Why a reader came to a halt. As a number each is what the definition calls it.
 #[derive(Clone, Copy)]
-pub enum Num {
-    Is { value: u32, next: usize },
-    No { reason: u8, at: usize },
+pub enum Reason {
+    NoDigit = 1,
+    OverWord,
+    OverByte,
+    Other,
 }
+
+// A reader's halt: why, and at which place.
+#[derive(Clone, Copy)]
+pub struct Halt {
+    pub reason: Reason,
+    pub at: usize,
+}
+
+// What a reader found, and the place behind it.
+#[derive(Clone, Copy)]
+pub struct Read<T> {
+    pub value: T,
+    pub next: usize,
+}
+
+// What a reader answers.
+pub type Parsed<T> = Result<Read<T>, Halt>;

@@ -3,7 +3,7 @@ ghost use Rattle.std.specs.Prelude.{◌≡◌, ◌+◌, ◌*◌, ◌<◌, ◌≤
 ghost use Rattle.format.specs.Number.{valued, number, byte, next_byte};
 ghost use Rattle.numbers.specs.Told.{told};
 
-use crate::Num;
+use crate::{Halt, Parsed, Read, Reason};
 use scan::Kind;
 
 // A value with one digit more, held at 2^32.
@@ -19,63 +19,73 @@ fn with_digit(v: u64, radix: u64, d: u64) -> u64
 }
 
 // The number whose digits, from a place to a place, are worth v.
-fn number_from(at: usize, next: usize, v: u64) -> Num
+fn number_from(at: usize, next: usize, v: u64) -> Parsed<u32>
     ensures { told result ≡ valued at next v }
 {
     if next == at {
-        return Num::No { reason: 1, at: at };
+        return Err(Halt {
+            reason: Reason::NoDigit,
+            at,
+        });
     }
     if v < 4294967296 {
-        return Num::Is {
+        return Ok(Read {
             value: v as u32,
-            next: next,
-        };
+            next,
+        });
     }
-    Num::No { reason: 2, at: at }
+    Err(Halt {
+        reason: Reason::OverWord,
+        at,
+    })
 }
 
 // The longest run of digits, as a number below 2^32.
-pub fn any_number(t: &[u8], at: usize, radix: u8) -> Num
+pub fn any_number(t: &[u8], at: usize, radix: u8) -> Parsed<u32>
     ensures { told result ≡ number radix t.now at }
 {
+    if t.len() <= at {
+        return Err(Halt {
+            reason: Reason::NoDigit,
+            at,
+        });
+    }
     let base = radix as u64;
     let mut v: u64 = 0;
-    let mut i = at;
-    while i < t.len() {
+    for i in at..t.len() {
         let d = digits::worth_of(t[i]);
         if base <= d {
             return number_from(at, i, v);
         }
         v = with_digit(v, base, d);
-        i += 1;
     }
-    number_from(at, i, v)
+    number_from(at, t.len(), v)
 }
 
 // A number below 256, of any length.
-pub fn any_byte(t: &[u8], at: usize, radix: u8) -> Num
+pub fn any_byte(t: &[u8], at: usize, radix: u8) -> Parsed<u32>
     ensures { told result ≡ byte radix t.now at }
 {
-    let n = any_number(t, at, radix);
-    let Num::Is { value, next } = n else {
-        return n;
-    };
-    if value < 256 {
-        return Num::Is {
-            value: value,
-            next: next,
-        };
+    let n = any_number(t, at, radix)?;
+    if n.value < 256 {
+        return Ok(n);
     }
-    Num::No { reason: 3, at: at }
+    Err(Halt {
+        reason: Reason::OverByte,
+        at,
+    })
 }
 
 // Any number of blanks, at least one, and a byte of any length.
-pub fn any_next(t: &[u8], at: usize, radix: u8) -> Num
+pub fn any_next(t: &[u8], at: usize, radix: u8) -> Parsed<u32>
     ensures { told result ≡ next_byte radix t.now at }
 {
     let a = scan::past_kind(t, at, Kind::Blank);
     if a == at {
-        return Num::No { reason: 4, at: at };
+        return Err(Halt {
+            reason: Reason::Other,
+            at,
+        });
     }
     any_byte(t, a, radix)
 }

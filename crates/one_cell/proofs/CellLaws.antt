@@ -12,7 +12,7 @@ use mir.Syntax.{w32}
 use lib.Dec.{eqb}
 use lib.ListN.{get_or}
 use borrow.Author.Rules.{rules}
-use borrow.Author.Tests.{lt-ltb, le-ltb, eq-eqb, ne_eqb}
+use borrow.Author.Tests.{lt-ltb, le-ltb}
 use Rattle.format.specs.Lists.{pick}
 use Rattle.format.specs.ModeStep.{Work}
 use Rattle.format.specs.Outcome.{Outcome, fine}
@@ -22,16 +22,6 @@ use Rattle.sites.specs.Site.{Ready}
 use Rattle.one_cell.specs.Cell.{Left, left_at, told, SoughtIn}
 use Rattle.one_cell.specs.declared.Cell as code
 use Rattle.one_cell.specs.declared.Cell.TheVariants.{Byte, Nothing}
-
--- `is_here`
-module _ (wk : List ℕ) {e i b : ℕ} (p want : ℕ) (ei : i ≡ e) (eb : b ≡ get_or wk i 0) where
-  pub here-kept : b ≡ 1 → eqb p want ≡ (eqb (get_or wk e 0) 1 && eqb p want)
-  here-kept h = rw (← ei, ← eb, h)
-
-  pub here-dropped : (b ≡ 1 → ⊥) → false ≡ (eqb (get_or wk e 0) 1 && eqb p want)
-  here-dropped h = rw (← ei, ← eb, ne_eqb b 1 h)
-
-pub ruleset here = (rules, here-kept, here-dropped)
 
 -- `byte_of`
 pub byte-is : (wv wm : List ℕ) {e i j v m : ℕ} → i ≡ e → v ≡ get_or wv i 0 → j ≡ e → m ≡ get_or wm j 0 → Byte v m ≡ Byte (get_or wv e 0) (get_or wm e 0)

@@ -27,8 +27,7 @@ use Rattle.one_cell.specs.declared.Cell as code
 use Rattle.one_cell.specs.declared.Cell.TheVariants.{Nothing, Beyond, Misfit}
 use Rattle.located.specs.declared.Found.{Found}
 use Rattle.located.specs.declared.Found.TheVariants as at
-use Rattle.work.specs.declared.Worked.{Worked}
-use Rattle.work.specs.declared.Worked.TheVariants as worked
+use Rattle.std.specs.Prelude.{Option as Answer, Some, None}
 use Rattle.located.specs.Site.{image_fits, site_at, found_by, found, kept_fits}
 use Rattle.work.specs.Work.{form_of, line_of, all_turns, Whole, WorkIs}
 use Rattle.one_cell.specs.Cell.{Left, left_at, left_by, left_in, site_work, told, cell_fits, SoughtIn, SiteCell, CellIs}
@@ -36,7 +35,7 @@ use Rattle.work.proofs.Use.{merged, whole_by}
 use Rattle.located.proofs.Sites.{Sited, sited, unkept-by, misfit-by}
 
 -- `cell_at_site`: q is what the work line answered
-module _ (s : Site) (bs ms es : List ℕ) (want : ℕ) (ready : Ready s) (lent : s.line.bytes ≤ length bs) {wv₀ wm₀ wk₀ ns₀ : List ℕ} {q : Worked} {wv wm wk ns : List ℕ}
+module _ (s : Site) (bs ms es : List ℕ) (want : ℕ) (ready : Ready s) (lent : s.line.bytes ≤ length bs) {wv₀ wm₀ wk₀ ns₀ : List ℕ} {q : Answer ℕ} {wv wm wk ns : List ℕ}
     (work : WorkIs s.line bs ms es wv₀ wm₀ wk₀ ns₀ q wv wm wk ns) where
   t : Whole (all_turns s.line ms es (fresh s.line.width (take s.line.bytes bs))) s.line.fragments q wv wm wk ns
   t = whole_by work (line-true ready.line lent)
@@ -49,10 +48,10 @@ module _ (s : Site) (bs ms es : List ℕ) (want : ℕ) (ready : Ready s) (lent :
       (λ d. fine (left_at s.size d.work (s.line.width + s.line.bytes) 0 s.line.address want))
       ∙ ap (λ (p : Outcome defs.Worked). and_then p (λ d. fine (left_at s.size d.work (s.line.width + s.line.bytes) 0 s.line.address want))) (sym e)
 
-  pub cell-beyond : q ≡ worked.Beyond → SiteCell s bs ms es want Beyond
+  pub cell-beyond : q ≡ None → SiteCell s bs ms es want Beyond
   cell-beyond g = record { says = λ xs radix. ap some (sym (by-work xs radix _ (rw g at (t.says xs s.line.place)))) }
 
-  pub cell-sought : {n : ℕ} → q ≡ worked.Numbers n → {r : code.Cell} → SoughtIn s want wv wm wk r → SiteCell s bs ms es want r
+  pub cell-sought : {n : ℕ} → q ≡ Some n → {r : code.Cell} → SoughtIn s want wv wm wk r → SiteCell s bs ms es want r
   unfolding line_of
   cell-sought g a = record { says = λ xs radix. a.says s.line.place ∙ ap some (sym (by-work xs radix _ (rw g at (t.says xs s.line.place)))) }
 

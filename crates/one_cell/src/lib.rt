@@ -11,7 +11,7 @@ use located::{Found, home_fits, locate};
 use rooms::FIXUP_ROOM;
 use row_count::grows;
 use sites::{Filled, Line, Site};
-use work::{Worked, work_line};
+use work::work_line;
 
 // The value and the mask that are written there, that nothing is, that 10 refuses the pair, or that the numbers do not fit.
 #[derive(Clone, Copy)]
@@ -26,10 +26,7 @@ pub enum Cell {
 fn is_here(wk: &[u8], e: u32, p: u32, want: u32) -> bool
     ensures { result ≡ (eqb (get_or wk.now e 0) 1 && eqb p want) }
 {
-    if byte_at(wk, wide(e)) == 1 {
-        return p == want;
-    }
-    false
+    byte_at(wk, wide(e)) == 1 && p == want
 }
 
 // What the entry e leaves.
@@ -48,9 +45,8 @@ fn seek(site: Site, want: u32, wv: &[u8; 260], wm: &[u8; 260], wk: &[u8; 260]) -
     ensures { SoughtIn site want wv.now wm.now wk.now result }
 {
     let n = (site.line.width + site.line.bytes) as u32;
-    let mut e: u32 = 0;
     let mut p = site.line.address;
-    while e < n {
+    for e in 0..n {
         if site.size <= p {
             return Cell::Nothing;
         }
@@ -58,7 +54,6 @@ fn seek(site: Site, want: u32, wv: &[u8; 260], wm: &[u8; 260], wk: &[u8; 260]) -
             return byte_of(wv, wm, e);
         }
         p += grows(wk, e);
-        e += 1;
     }
     Cell::Nothing
 }
@@ -73,11 +68,10 @@ fn cell_at_site(site: Site, bs: &[u8], ms: &[u32], es: &[u32], want: u32) -> Cel
     let mut wm = [0; 260];
     let mut wk = [0; 260];
     let mut ns = [0; 64];
-    let worked = work_line(site.line, bs, ms, es, &mut wv, &mut wm, &mut wk, &mut ns);
-    let Worked::Numbers(_) = worked else {
-        return Cell::Beyond;
-    };
-    seek(site, want, &wv, &wm, &wk)
+    match work_line(site.line, bs, ms, es, &mut wv, &mut wm, &mut wk, &mut ns) {
+        Some(_) => seek(site, want, &wv, &wm, &wk),
+        None => Cell::Beyond,
+    }
 }
 
 // What one T and R pair alone leaves at a position of its area, given the area's home. A pair of an area that is not kept leaves nothing; another area's home is a misfit.

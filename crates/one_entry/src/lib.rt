@@ -2,28 +2,35 @@
 #![tactic(auto)]
 
 ghost use Rattle.std.specs.Prelude.{◌≡◌};
-ghost use Rattle.one_entry.specs.Adds.{Adds};
-ghost use Rattle.one_entry.specs.declared.Added.TheVariants.{Room};
+ghost use Rattle.one_entry.specs.Adds.{Adds, room};
 
 use entry_line::Entry;
 use put_rows::{put_area, put_symbol};
 use rooms::AREA_ROOM;
 
-// How many rows there are with the entry; or the number of the refusal.
+// How many areas and symbols there may be.
+const AREAS: usize = 64;
+
+const SYMBOLS: usize = 1024;
+
+// How many rows there are of each kind.
 #[derive(Clone, Copy)]
-pub enum Added {
-    Room { areas: usize, symbols: usize },
-    Full { number: u32 },
+pub struct Rows {
+    pub areas: usize,
+    pub symbols: usize,
+}
+
+// The number of the refusal where there is no row for an entry.
+#[derive(Clone, Copy)]
+pub struct Full {
+    pub number: u32,
 }
 
 // So many rows.
-fn room(areas: usize, symbols: usize) -> Added
-    ensures { result ≡ Room areas symbols }
+fn room(areas: usize, symbols: usize) -> Result<Rows, Full>
+    ensures { result ≡ room areas symbols }
 {
-    Added::Room {
-        areas: areas,
-        symbols: symbols,
-    }
+    Ok(Rows { areas, symbols })
 }
 
 // One entry more, from a line at p, behind na areas and ns symbols.
@@ -34,7 +41,7 @@ pub fn add_entry(
     ns: usize,
     areas: &mut [u32; AREA_ROOM],
     symbols: &mut [u32],
-) -> Added
+) -> Result<Rows, Full>
     ensures { Adds entry p na ns areas.old symbols.old result areas.new symbols.new }
 {
     match entry {
@@ -46,8 +53,8 @@ pub fn add_entry(
             flags,
             addr,
         } => {
-            if 64 <= na {
-                return Added::Full { number: 5 };
+            if AREAS <= na {
+                return Err(Full { number: 5 });
             }
             put_area(areas, na, p, name, len, size, flags, addr);
             room(na + 1, ns)
@@ -58,8 +65,8 @@ pub fn add_entry(
             is_ref,
             value,
         } => {
-            if 1024 <= ns {
-                return Added::Full { number: 6 };
+            if SYMBOLS <= ns {
+                return Err(Full { number: 6 });
             }
             put_symbol(symbols, ns, p, name, len, is_ref, value, na);
             room(na, ns + 1)

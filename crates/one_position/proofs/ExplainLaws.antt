@@ -46,8 +46,9 @@ use Rattle.record_rows.proofs.Roomy.{few-records}
 use Rattle.pairs_answer.specs.Told.{held}
 use Rattle.pairs_answer.specs.Told as rows
 use Rattle.admission.specs.Admits.{IsRead}
-use Rattle.pairs_answer.specs.declared.PairsAnswer.{PairsAnswer}
-use Rattle.pairs_answer.specs.declared.PairsAnswer.TheVariants as pairs
+use Rattle.std.specs.Prelude.{Ok, Err}
+use Rattle.answer.specs.declared.Refusal as answers
+use Rattle.pairs_answer.specs.Told.{PairsAnswer}
 use Rattle.record_parts.specs.Parts.{placed_of}
 use Rattle.record_parts.proofs.Decoded.{Standing}
 use Rattle.position_answer.specs.declared.Explained.{Explained}
@@ -234,14 +235,17 @@ module _ (s ps₀ bs₀ fs₀ : List ℕ) (id position : ℕ) (lp : length ps₀
   pub says-it : rows.told q ≡ (paper.pairs_from (read true roomy s)).answer
   says-it = roomy-says s ps₀ bs₀ fs₀ q m has_room
 
-  pub records-refused : {n p : ℕ} → q ≡ pairs.Refusal n p → Told s id position (say.Refused n p)
+  refuses-at : {n p : ℕ} → q ≡ (Err (record { number = n; place = p })) → Told s id position (say.Refused n p)
   unfolding writer_in
-  records-refused {n} {p} e = record { says = go (read true roomy s) refl (rw e at says-it) }
+  refuses-at {n} {p} e = record { says = go (read true roomy s) refl (rw e at says-it) }
     where
       go : (o : Outcome Read) → read true roomy s ≡ o → paper.refusal n p ≡ (paper.pairs_from o).answer
           → refused n p ≡ and_then (read true roomy s) (λ w. writer_of w.parsed.form w.built.tables w.parsed.records.pairs id position)
       go (refused a b) r h = let x : n ≡ a = cc in let y : p ≡ b = cc in rw (r, x, y)
       go (fine w) r h = let z : ◌≡◌ {A = ℕ} 0 1 = cc in let y : ⊥ = omega arith in absurd y
+
+  pub records-refused : {z : answers.Refusal} → q ≡ Err z → Told s id position (say.Refused z.number z.place)
+  records-refused {z} e = refuses-at {n = z.number} {p = z.place} e
 
 pub ruleset by-records = (rules, records-refused, records-read, rowed-as)
 

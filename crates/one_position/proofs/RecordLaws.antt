@@ -12,8 +12,8 @@ use Rattle.record_rows.specs.ReadPairs as paper
 use Rattle.record_rows.specs.ReadPairs.{roomy}
 use Rattle.pairs_answer.specs.Told.{held}
 use Rattle.pairs_answer.specs.Told as rows
-use Rattle.pairs_answer.specs.declared.PairsAnswer.{PairsAnswer}
-use Rattle.pairs_answer.specs.declared.PairsAnswer.TheVariants as pairs
+use Rattle.std.specs.Prelude.{Ok}
+use Rattle.pairs_answer.specs.Told.{PairsAnswer}
 use Rattle.pair_rows.specs.declared.PairCounts.{PairCounts}
 use Rattle.admission.specs.Admits.{IsRead}
 use Rattle.one_position.specs.Explain.{Rowed}
@@ -28,7 +28,7 @@ module _ (s ps₀ bs₀ fs₀ : List ℕ) (q : PairsAnswer) {ps bs fs : List ℕ
   unfolding paper.read_pairs
   roomy-holds room = rw room at m.held
 
-  module _ {c : PairCounts} (e : q ≡ pairs.Accepted c) where
+  module _ {c : PairCounts} (e : q ≡ Ok c) where
     had-room : paper.pairs_room (held ps₀ bs₀ fs₀) ≡ true
     unfolding paper.read_pairs
     had-room = go (paper.pairs_room (held ps₀ bs₀ fs₀)) (rw e at m.says)

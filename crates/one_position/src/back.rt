@@ -51,9 +51,7 @@ pub(crate) fn last_of(
     requires { n ≤ 4096 }
     ensures { LastIs pairs.now content.now fragments.now n big width home want result }
 {
-    let mut k = n;
-    while 0 < k {
-        k -= 1;
+    for k in (0..n).rev() {
         let p = PAIR_WIDTH * k;
         let c = pair_tells(pairs, content, fragments, p, big, width, home, want);
         if is_byte(c) {

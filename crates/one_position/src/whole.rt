@@ -6,7 +6,6 @@ ghost use Rattle.one_position.specs.Explain.{Rowed, TablesTell, Told};
 
 use crate::told::answer;
 use header::{Form, Head, Width};
-use pairs_answer::PairsAnswer;
 use position_answer::Explained;
 use records::read_pairs;
 use rooms::{AREA_ROOM, SYMBOL_ROOM};
@@ -106,19 +105,11 @@ fn by_records(
     ensures { Told text.now id position result }
 {
     match read_pairs(text, pairs, content, fragments) {
-        PairsAnswer::Refusal { number, place } => Explained::Refused {
-            number: number,
-            place: place,
+        Err(refusal) => Explained::Refused {
+            number: refusal.number,
+            place: refusal.place,
         },
-        PairsAnswer::Accepted { counts } => by_rows(
-            text,
-            pairs,
-            content,
-            fragments,
-            counts.pairs,
-            id,
-            position,
-        ),
+        Ok(counts) => by_rows(text, pairs, content, fragments, counts.pairs, id, position),
     }
 }
 

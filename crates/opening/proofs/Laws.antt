@@ -20,13 +20,11 @@ use Rattle.header.specs.declared.Form.{Form}
 use Rattle.header.specs.declared.Head.{Head}
 use Rattle.header.specs.declared.Head.TheVariants.{Found, Missing}
 use Rattle.way_in.specs.WayIn.{takes_by}
-use Rattle.answer.specs.Answer.{AcceptedIs, told}
-use Rattle.answer.specs.declared.Answer.{Answer}
-use Rattle.answer.specs.declared.Answer.TheVariants.{Refusal}
+use Rattle.answer.specs.Answer.{AcceptedIs, Answer, refusal, told}
 use Rattle.opening.specs.Opening.{Opens, answered, behind_header, header_alone, lines, opening, opening_from}
 
 -- `header_only`
-pub header_refused : {ended : Bool} (n e : ℕ) → ended ≡ true → told (Refusal 4 0) ≡ header_alone ended n e
+pub header_refused : {ended : Bool} (n e : ℕ) → ended ≡ true → told (refusal 4 0) ≡ header_alone ended n e
 header_refused n e h = rw h
 
 pub header-accepted : {ended : Bool} (n e : ℕ) → ended ≡ false → {r : Answer} → AcceptedIs (record { areas = 0; symbols = 0; lines = 0; kept = 0; positions = 0; fixups = 0 }) n e r → told r ≡ header_alone ended n e

@@ -6,7 +6,7 @@ ghost use Rattle.format.specs.Reading.{refusal};
 ghost use Rattle.answer.specs.Answer.{told};
 ghost use Rattle.opening.specs.Opening.{answered, header_alone, opening, told_opening};
 
-use answer::{Answer, Counts, accept};
+use answer::{Answer, Counts, Refusal, accept};
 use header::{Form, Head};
 use way_in::takes_by;
 
@@ -22,10 +22,10 @@ fn header_only(ended: bool, n: usize, next: usize) -> Answer
     ensures { told result ≡ header_alone ended n next }
 {
     if ended {
-        return Answer::Refusal {
+        return Err(Refusal {
             number: 4,
             place: 0,
-        };
+        });
     }
     let none = Counts {
         areas: 0,
@@ -42,11 +42,9 @@ fn header_only(ended: bool, n: usize, next: usize) -> Answer
 fn refused(number: u32) -> Opening
     ensures { told_opening result ≡ answered (refusal number 0) }
 {
-    let refusal = Answer::Refusal {
-        number: number,
-        place: 0,
-    };
-    Opening::Answered { answer: refusal }
+    Opening::Answered {
+        answer: Err(Refusal { number, place: 0 }),
+    }
 }
 
 // 4, then 18 where not every radix is taken; else the lines behind the header. The header ends behind its line end in the ended

@@ -16,48 +16,17 @@ enum Word {
     Unknown,
 }
 
-// Whether a word of six bytes is --skip or --help, told by its third byte.
-fn six(word: &[u8; 10]) -> Word {
-    if word[2] == b's' && word[3] == b'k' && word[4] == b'i' && word[5] == b'p' {
-        return Word::Skip;
+// What a word is that begins with a dash.
+fn option(word: &[u8]) -> Word {
+    match word {
+        b"-h" => Word::Help,
+        b"--help" => Word::Help,
+        b"--skip" => Word::Skip,
+        b"--fixups" => Word::Fixups,
+        b"--as" => Word::Name,
+        b"--" => Word::End,
+        _ => Word::Unknown,
     }
-    if word[2] == b'h' && word[3] == b'e' && word[4] == b'l' && word[5] == b'p' {
-        return Word::Help;
-    }
-    Word::Unknown
-}
-
-// Whether a word of eight bytes is --fixups.
-fn is_fixups(word: &[u8; 10]) -> bool {
-    word[2] == b'f'
-        && word[3] == b'i'
-        && word[4] == b'x'
-        && word[5] == b'u'
-        && word[6] == b'p'
-        && word[7] == b's'
-}
-
-// What a word of n bytes is that begins with a dash.
-fn option(word: &[u8; 10], n: usize) -> Word {
-    if n == 2 && word[1] == b'h' {
-        return Word::Help;
-    }
-    if word[1] != b'-' {
-        return Word::Unknown;
-    }
-    if n == 2 {
-        return Word::End;
-    }
-    if n == 4 && word[2] == b'a' && word[3] == b's' {
-        return Word::Name;
-    }
-    if n == 6 {
-        return six(word);
-    }
-    if n == 8 && is_fixups(word) {
-        return Word::Fixups;
-    }
-    Word::Unknown
 }
 
 // What an argument is.
@@ -67,7 +36,7 @@ fn word_at(rt: &impl Env, i: usize) -> Word {
     if word[0] != b'-' {
         return Word::Name;
     }
-    option(&word, n)
+    option(sink::first_bytes(&word, n))
 }
 
 // Tells of a name that is longer than a file's name can be.
@@ -162,10 +131,10 @@ enum Request {
 // The work on the arguments from one on.
 fn work_from(first: usize, end: usize, skip: bool, fixups: bool) -> Request {
     Request::Work(Job {
-        first: first,
-        end: end,
-        skip: skip,
-        fixups: fixups,
+        first,
+        end,
+        skip,
+        fixups,
     })
 }
 
@@ -173,8 +142,7 @@ fn work_from(first: usize, end: usize, skip: bool, fixups: bool) -> Request {
 fn asked(rt: &impl Env, count: usize) -> Request {
     let mut skip = false;
     let mut fixups = false;
-    let mut i = 1;
-    while i < count {
+    for i in 1..count {
         match word_at(rt, i) {
             Word::Skip => {
                 skip = true;
@@ -195,7 +163,6 @@ fn asked(rt: &impl Env, count: usize) -> Request {
                 return Request::Unknown(i);
             }
         }
-        i += 1;
     }
     work_from(count, count, skip, fixups)
 }

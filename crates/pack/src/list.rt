@@ -1,7 +1,8 @@
 // Modules by their names: a file of that name, shown under its own or another one.
+ghost use Rattle.std.specs.Prelude.{◌<◌, length, IfSome};
+
 use crate::shelf::Shelf;
 use crate::{module, shelf};
-use bulk::Input;
 use console::Room;
 use host::Host;
 use rooms::INPUT_ROOM;
@@ -35,11 +36,11 @@ fn read(
 ) -> Shelf {
     let mut room = [0u8; INPUT_ROOM];
     match console::fill(reader, &mut room) {
-        Input::Failed(why) => {
+        Err(why) => {
             console::tell_reason(shown, why);
             shelf::spoilt(s)
         }
-        Input::Text(n) => first(pool, rows, s, &room, n, shown),
+        Ok(n) => first(pool, rows, s, &room, n, shown),
     }
 }
 
@@ -61,54 +62,30 @@ pub(crate) fn file(
     }
 }
 
-// The end of the line that begins at a place.
-fn line_end(names: &[u8], at: usize) -> usize {
-    let mut i = at;
-    while i < names.len() {
-        if cells::byte_at(names, i) == b'\n' {
-            return i;
-        }
-        i += 1;
-    }
-    i
-}
-
 // The module that a line names; an empty line names none.
 fn one(rt: &impl Host, pool: &mut [u8], rows: &mut [u32], s: Shelf, name: &[u8]) -> Shelf {
-    if name.len() == 0 {
+    if name.is_empty() {
         return s;
     }
     file(rt, pool, rows, s, name, name)
 }
 
-// The line that begins at a place, without its end.
-fn line_at<'a>(names: &'a [u8], at: usize) -> &'a [u8] {
-    let end = line_end(names, at);
-    if end < at {
-        return &names[..0];
-    }
-    row_parts::part(names, at, end - at)
+// Where the first line ends, if there is an end.
+fn line_end(names: &[u8]) -> Option<usize>
+    ensures { IfSome result (λ n. n < length names.now) }
+{
+    names.iter().position(|b| *b == b'\n')
 }
 
-// The place of the line behind that.
-fn next_line(names: &[u8], at: usize) -> usize {
-    sink::end_of(line_end(names, at), 1, names.len())
-}
-
-// The modules that lines name. The turns, one for each byte, are there since a proved loop has to end.
+// The modules that lines name.
 fn lines(rt: &impl Host, pool: &mut [u8], rows: &mut [u32], s: Shelf, names: &[u8]) -> Shelf {
     let mut now = s;
-    let mut at = 0;
-    let mut turns = names.len();
-    while 0 < turns {
-        now = one(rt, pool, rows, now, line_at(names, at));
-        at = next_line(names, at);
-        turns -= 1;
-        if names.len() <= at {
-            return now;
-        }
+    let mut rest = names;
+    while let Some(end) = line_end(rest) {
+        now = one(rt, pool, rows, now, &rest[..end]);
+        rest = &rest[end + 1..];
     }
-    now
+    one(rt, pool, rows, now, rest)
 }
 
 // Room for all names.
@@ -125,10 +102,10 @@ pub(crate) fn standard(rt: &impl Host, pool: &mut [u8], rows: &mut [u32], s: She
 // The same with the room for all names.
 fn named(rt: &impl Host, pool: &mut [u8], rows: &mut [u32], s: Shelf, names: &mut Names) -> Shelf {
     match bulk::fill(&mut rt.reader(), names) {
-        Input::Failed(why) => {
+        Err(why) => {
             console::tell_reason(b"standard input", why);
             shelf::spoilt(s)
         }
-        Input::Text(n) => lines(rt, pool, rows, s, sink::first_bytes(names, n)),
+        Ok(n) => lines(rt, pool, rows, s, sink::first_bytes(names, n)),
     }
 }

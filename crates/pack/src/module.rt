@@ -2,8 +2,7 @@
 use crate::shelf::Shelf;
 use crate::whole::Whole;
 use crate::{name, shelf, whole};
-use answer::{Answer, Counts};
-use kept_areas::Id;
+use answer::{Accepted, Answer, Counts};
 use rooms::{AREA_ROOM, FIXUP_ROOM, IMAGE_ROOM, SYMBOL_ROOM};
 
 // Area i, if it is kept.
@@ -19,8 +18,8 @@ fn area(
     masks: &[u8],
 ) -> Shelf {
     match kept_areas::area_id(areas, n, i) {
-        Id::Unkept => s,
-        Id::Kept { id } => shelf::add(
+        None => s,
+        Some(id) => shelf::add(
             pool,
             rows,
             s,
@@ -44,10 +43,8 @@ fn areas_of(
     masks: &[u8],
 ) -> Shelf {
     let mut now = s;
-    let mut i = 0;
-    while i < n {
+    for i in 0..n {
         now = area(pool, rows, now, name, areas, n, i, values, masks);
-        i += 1;
     }
     now
 }
@@ -89,11 +86,11 @@ pub(crate) fn add(pool: &mut [u8], rows: &mut [u32], s: Shelf, text: &[u8], show
         &mut fixups,
     );
     match answer {
-        Answer::Refusal { number, place } => {
-            console::tell_number(shown, cells::wide(number), place);
+        Err(refusal) => {
+            console::tell_number(shown, cells::wide(refusal.number), refusal.place);
             shelf::spoilt(s)
         }
-        Answer::Accepted { counts, verdict } => match whole::judged(text, counts, verdict) {
+        Ok(Accepted { counts, verdict }) => match whole::judged(text, counts, verdict) {
             Whole::Stopped(place) => {
                 console::tell_place(shown, place);
                 shelf::spoilt(s)

@@ -38,30 +38,18 @@ pub(crate) fn new(listing: bool) -> Shelf {
         entries: 0,
         full: false,
         bad: false,
-        listing: listing,
+        listing,
     }
 }
 
 // A module was not taken.
 pub(crate) fn spoilt(s: Shelf) -> Shelf {
-    Shelf {
-        used: s.used,
-        entries: s.entries,
-        full: s.full,
-        bad: true,
-        listing: s.listing,
-    }
+    Shelf { bad: true, ..s }
 }
 
 // An entry found no room, or standard output took no more.
 pub(crate) fn over(s: Shelf) -> Shelf {
-    Shelf {
-        used: s.used,
-        entries: s.entries,
-        full: true,
-        bad: s.bad,
-        listing: s.listing,
-    }
+    Shelf { full: true, ..s }
 }
 
 // Bytes added to the pool.
@@ -77,17 +65,13 @@ fn append(pool: &mut [u8], s: Shelf, bytes: &[u8]) -> Shelf {
     cells::copy_bytes(pool, used, bytes, n);
     Shelf {
         used: used + n,
-        entries: s.entries,
-        full: s.full,
-        bad: s.bad,
-        listing: s.listing,
+        ..s
     }
 }
 
 // The last digit of a number.
 fn digit(n: usize) -> u8 {
-    let d = n % 10;
-    48 + d as u8
+    b'0' + (n % 10) as u8
 }
 
 // A colon and a number below 1,000 in decimal, added to the pool.
@@ -103,10 +87,7 @@ fn append_id(pool: &mut [u8], s: Shelf, id: usize) -> Shelf {
 
 // A place or length as a number of a row.
 fn narrow(n: usize) -> u32 {
-    if n <= 4294967295 {
-        return n as u32;
-    }
-    4294967295
+    u32::try_from(n).unwrap_or(u32::MAX)
 }
 
 // How many bytes were added between two moments.
@@ -132,11 +113,8 @@ fn put_row(rows: &mut [u32], s: Shelf, name: usize, values: usize, masks: usize)
     cells::put_u32(rows, at + 3, narrow(masks));
     cells::put_u32(rows, at + 4, added(values, masks));
     Shelf {
-        used: s.used,
         entries: std::num::wrapping_add_u32(s.entries, 1),
-        full: s.full,
-        bad: s.bad,
-        listing: s.listing,
+        ..s
     }
 }
 

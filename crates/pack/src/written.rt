@@ -1,7 +1,7 @@
 // The book of what is on the shelf, on standard output.
 use crate::shelf::Shelf;
 use crate::told;
-use book_plan::Wrote;
+use book_plan::Refusal;
 use host::STDOUT_FILENO;
 
 // The most entries, and the longest book of so many: their rows, and what the pool has.
@@ -15,9 +15,12 @@ type Book = [u8; BOOK];
 type Order = [u32; ENTRIES];
 
 // A name that stands twice, or no room.
-fn unwritten(pool: &[u8], rows: &[u32], number: u8, place: u32) {
-    if number == 21 {
-        console::tell_words(book_given::given_name(pool, rows, place), b"stands twice");
+fn unwritten(pool: &[u8], rows: &[u32], why: Refusal) {
+    if why.number == 21 {
+        console::tell_words(
+            book_given::given_name(pool, rows, why.place),
+            b"stands twice",
+        );
     } else {
         told::full();
     }
@@ -27,8 +30,8 @@ fn unwritten(pool: &[u8], rows: &[u32], number: u8, place: u32) {
 // The book into lent bytes, and then out.
 fn put(out: &mut [u8], order: &mut [u32], pool: &[u8], rows: &[u32], n: u32) {
     match book_write::write_book(out, order, pool, rows, n) {
-        Wrote::Refused { number, place } => unwritten(pool, rows, number, place),
-        Wrote::Book { length } => {
+        Err(why) => unwritten(pool, rows, why),
+        Ok(length) => {
             if !io::write_all(STDOUT_FILENO, sink::first_bytes(out, length)) {
                 console::tell_reason(b"standard output", host::last_failure());
             }

@@ -1,7 +1,40 @@
 // A module by its file's name, for the page: its row, what standard error is told of it, and the totals with it.
 #![tactic(auto)]
 
-mod file;
-mod module;
+use host::Host;
+use kinds::Kinds;
+use report_lines::{Form, Image, Own, Tally};
+use sink::{Buffer, Sink};
+use totals::Totals;
 
-pub use file::page_file;
+// A row for each module, with its positions by kind.
+struct Rows;
+
+impl Form for Rows {
+    type Positions = Kinds;
+
+    fn positions(masks: &Image, map: &Image, n: usize) -> Kinds {
+        kinds::kinds_in(masks, map, n)
+    }
+
+    fn refused(s: Sink, out: &mut Buffer, name: &[u8], number: usize, place: usize) -> Sink {
+        page_row::refused_row(s, out, name, number, place)
+    }
+
+    fn read(s: Sink, out: &mut Buffer, name: &[u8], own: Own, positions: Kinds) -> Sink {
+        let f = own.totals.figures;
+        page_row::read_row(s, out, name, f, positions, own.verdict, own.counted)
+    }
+}
+
+// The module of a file, shown under a name.
+pub fn page_file(
+    rt: &impl Host,
+    s: Sink,
+    out: &mut Buffer,
+    t: Totals,
+    file: &[u8],
+    name: &[u8],
+) -> Tally {
+    report_lines::report_file::<Rows>(rt, s, out, t, file, name)
+}

@@ -1,19 +1,17 @@
 -- The laws of names in a page: a law for each return, and the loop's invariant.
 -- Assumes nothing.
-use Prim.Native.Nat.{ℕ, zero, suc, ◌+◌, ◌≤◌, ◌<◌}
-use mathlib.Core.Path.{◌≡◌, refl, ap, sym, ◌∙◌}
+use Prim.Native.Nat.{ℕ, ◌+◌, ◌≤◌, ◌<◌}
+use mathlib.Core.Path.{◌≡◌, refl, sym}
 use mathlib.Core.List.{List, [], ◌∷◌, ◌++◌, append_assoc, append-nil}
 use native.Mathlib.Nat.{add-zero}
 use native.Mathlib.Numerals.{add-one}
 use native.Mathlib.Omega.{arith}
-use lib.Dec.{eqb}
 use lib.ListN.{length, take, get_or}
 use lib.Seq.{take-suc, take_all}
 use borrow.Author.Rules.{rules}
 use borrow.Author.Tests.{eq-eqb, ne_eqb}
-use Rattle.format.specs.Lists.{pick}
 use Rattle.sink.specs.declared.output.Sink.{Sink}
-use Rattle.sink.specs.Sinks.{behind, Adds}
+use Rattle.sink.specs.Sinks.{Adds}
 use Rattle.texts.specs.Names.{shown}
 use Rattle.texts.proofs.Laws.{adds-both}
 use Rattle.page_name.specs.Names.{in_page, page_byte, quoted_byte, less, greater, ampersand, quote, apostrophe}

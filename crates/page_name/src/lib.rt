@@ -40,10 +40,8 @@ pub fn name(s: Sink, out: &mut Buffer, bytes: &[u8]) -> Sink
     ensures { Adds s out.old (in_page bytes.now) result out.new }
 {
     let mut now = s;
-    let mut i = 0;
-    while i < bytes.len() {
-        now = page_byte(now, out, bytes[i]);
-        i += 1;
+    for byte in bytes {
+        now = page_byte(now, out, *byte);
     }
     now
 }

@@ -8,13 +8,7 @@ use totals::Figures;
 
 // Whether a module is whole: finished, and its counts not told otherwise.
 fn is_whole(verdict: Verdict, counted: Counted) -> bool {
-    match counted {
-        Counted::NotEqual => false,
-        _ => match verdict {
-            Verdict::Finished => true,
-            _ => false,
-        },
-    }
+    matches!(verdict, Verdict::Finished) && !matches!(counted, Counted::NotEqual)
 }
 
 // How a line or a row begins: words of the page, and a name.

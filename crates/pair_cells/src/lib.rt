@@ -4,21 +4,14 @@
 ghost use Rattle.std.specs.Prelude.{◌≡◌, ◌+◌, ◌*◌, get_or};
 ghost use Rattle.row_parts.specs.Parts.{part_of};
 
-use cells::{at, wide};
+use cells::wide;
 use rooms::PAIR_WIDTH;
 
 // A number of pair i's row, or 0 past the end.
 pub fn pair_cell(rows: &[u32], i: usize, c: usize) -> u32
     ensures { result ≡ get_or rows.now (7 * i + c) 0 }
 {
-    if rows.len() / 7 < i {
-        return 0;
-    }
-    let start = PAIR_WIDTH * i;
-    if rows.len() - start <= c {
-        return 0;
-    }
-    at(rows, start + c)
+    row_parts::row_cell(rows, PAIR_WIDTH, i, c)
 }
 
 // The content bytes of pair i, or none where they do not fit.

@@ -8,10 +8,7 @@ ghost use Rattle.laws.specs.Places.{line_at};
 fn by_pair(t: &[u8], paired: bool) -> bool
     ensures { result ≡ (paired || eqb (get_or t.now 0 0) 84) }
 {
-    if paired {
-        return true;
-    }
-    scan::byte_at(t, 0) == b'T'
+    paired || scan::byte_at(t, 0) == b'T'
 }
 
 // The same of the line at a place; past the end of the text the line has no bytes.

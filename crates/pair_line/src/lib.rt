@@ -6,33 +6,5 @@ mod content;
 mod relocations;
 mod usual;
 
-pub use content::{parse_content, whole_content};
-pub use relocations::{area_part, parse_reloc_line};
-
-// A T line with the count of its content bytes, or its halt.
-#[derive(Clone, Copy)]
-pub enum ContentLine {
-    Content {
-        address: u32,
-        count: usize,
-        used: usize,
-    },
-    NoContent {
-        reason: u8,
-        at: usize,
-    },
-}
-
-// An R line with the count of its fragments, or its halt.
-#[derive(Clone, Copy)]
-pub enum RelocationLine {
-    Relocation {
-        area: u32,
-        count: usize,
-        used: usize,
-    },
-    NoRelocation {
-        reason: u8,
-        at: usize,
-    },
-}
+pub use content::{Content, parse_content, whole_content};
+pub use relocations::{Relocation, area_part, parse_reloc_line};

@@ -5,42 +5,38 @@ ghost use Rattle.numbers.specs.Told.{told};
 ghost use Rattle.header.specs.Told.{form_of};
 ghost use Rattle.pair_line.specs.Pairs.{Relocations};
 
-use crate::RelocationLine;
 use crate::usual::usual_zero;
-use fields::Place;
 use fragments::{next_index, parse_reloc_frag};
 use header::Form;
-use numbers::Num;
+use numbers::{Halt, Parsed};
 use scan::Kind;
 use zero_only::zero_only;
 
+// An R line that was read: its area, the count of its fragments, and the bytes used.
+#[derive(Clone, Copy)]
+pub struct Relocation {
+    pub area: u32,
+    pub count: usize,
+    pub used: usize,
+}
+
 // An index that is 0.
-fn zero_index(t: &[u8], at: usize, radix: u8, big: bool) -> Num
+fn zero_index(t: &[u8], at: usize, radix: u8, big: bool) -> Parsed<u32>
     ensures { told result ≡ zero_index radix big t.now at }
 {
     zero_only(joined::parse_area_index(t, at, radix, big), at)
 }
 
 // R, index 0, the area's index. The usual form is read at once.
-pub fn area_part(t: &[u8], form: Form) -> Num
+pub fn area_part(t: &[u8], form: Form) -> Parsed<u32>
     ensures { told result ≡ area_part (form_of form) t.now 0 }
 {
     if usual_zero(t, form.radix) {
         return joined::parse_area_index(t, 8, form.radix, form.big);
     }
-    match fields::lead_at(t, 0, b"R") {
-        Place::Not { reason, at } => Num::No {
-            reason: reason,
-            at: at,
-        },
-        Place::At { next } => {
-            let z = zero_index(t, next, form.radix, form.big);
-            let Num::Is { value: _, next: a } = z else {
-                return z;
-            };
-            next_index(t, a, form.radix, form.big)
-        }
-    }
+    let next = fields::lead_at(t, 0, b"R")?;
+    let zero = zero_index(t, next, form.radix, form.big)?;
+    next_index(t, zero.next, form.radix, form.big)
 }
 
 // R, index 0, the area's index, the fragments; blanks may trail.
@@ -50,22 +46,14 @@ pub fn parse_reloc_line(
     modes: &mut [u32; 64],
     entries: &mut [u32; 64],
     indexes: &mut [u32; 64],
-) -> RelocationLine
+) -> Result<Relocation, Halt>
     ensures { Relocations (relocation_line (form_of form) t.now 0) result modes.old entries.old indexes.old modes.new entries.new indexes.new }
 {
-    match area_part(t, form) {
-        Num::No { reason, at } => RelocationLine::NoRelocation {
-            reason: reason,
-            at: at,
-        },
-        Num::Is { value, next } => {
-            let run = parse_reloc_frag(t, next, form.radix, form.big, modes, entries, indexes);
-            let end = run.end;
-            RelocationLine::Relocation {
-                area: value,
-                count: run.count,
-                used: scan::past_kind(t, end, Kind::Blank),
-            }
-        }
-    }
+    let area = area_part(t, form)?;
+    let run = parse_reloc_frag(t, area.next, form.radix, form.big, modes, entries, indexes);
+    Ok(Relocation {
+        area: area.value,
+        count: run.count,
+        used: scan::past_kind(t, run.end, Kind::Blank),
+    })
 }

@@ -2,7 +2,7 @@
 ghost use Rattle.std.specs.Prelude.{[], ◌∷◌};
 ghost use Rattle.pair_line.specs.Usual.{Led, Zeroed};
 
-use fields::same_so_far;
+use empty_marks::zero_lead;
 
 // Whether a line begins with this letter, one space and no blank more.
 pub(crate) fn usual_letter(t: &[u8], letter: u8) -> bool
@@ -20,7 +20,7 @@ pub(crate) fn usual_letter(t: &[u8], letter: u8) -> bool
     32 < t[2]
 }
 
-// Whether a line of radix 16 begins with R, the index 0 and one space, all with single spaces, and no blank more. No branch stands between the eight, so that they are compared at once.
+// Whether a line of radix 16 begins with R, the index 0 and one space, all with single spaces, and no blank more.
 pub(crate) fn usual_zero(t: &[u8], radix: u8) -> bool
     ensures { Zeroed radix t.now result }
 {
@@ -30,15 +30,7 @@ pub(crate) fn usual_zero(t: &[u8], radix: u8) -> bool
     if t.len() < 9 {
         return false;
     }
-    let a = same_so_far(t[0], b'R', true);
-    let b = same_so_far(t[1], b' ', a);
-    let c = same_so_far(t[2], b'0', b);
-    let d = same_so_far(t[3], b'0', c);
-    let e = same_so_far(t[4], b' ', d);
-    let f = same_so_far(t[5], b'0', e);
-    let g = same_so_far(t[6], b'0', f);
-    let h = same_so_far(t[7], b' ', g);
-    if h {
+    if zero_lead(t[0], t[1], t[2], t[3], t[4], t[5], t[6], t[7]) {
         return 32 < t[8];
     }
     false

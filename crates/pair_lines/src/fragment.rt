@@ -69,8 +69,7 @@ pub(crate) fn lines(
 ) -> Sink {
     let mut now = s;
     let mut none = true;
-    let mut i: usize = 0;
-    while i < n {
+    for i in 0..n {
         if covering::covers(at(ms, i), at(es, i), width, e) {
             let s1 = marked_line::marked(now, out, text, fragment_place(text, place, i, radix));
             now = told(
@@ -86,7 +85,6 @@ pub(crate) fn lines(
             );
             none = false;
         }
-        i += 1;
     }
     if none {
         let s1 = marked_line::marked(now, out, text, place);

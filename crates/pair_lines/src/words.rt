@@ -1,17 +1,14 @@
 // Words of a line by their number, and a mode in words.
 use mode::JumpType;
-use numbers::Num;
 use scan::Kind;
 use sink::{Buffer, Sink};
 
 // The place of the word that stands n words behind the one at a place.
 pub(crate) fn word_place(text: &[u8], place: usize, n: usize) -> usize {
     let mut at = place;
-    let mut i: usize = 0;
-    while i < n {
+    for _ in 0..n {
         let end = scan::past_kind(text, at, Kind::InName);
         at = scan::past_kind(text, end, Kind::Blank);
-        i += 1;
     }
     at
 }
@@ -19,18 +16,16 @@ pub(crate) fn word_place(text: &[u8], place: usize, n: usize) -> usize {
 // How many words the fragment at a place has: a mode of F0 and above has two, every other one; then its entry, and an index of two.
 fn fragment_words(text: &[u8], place: usize, radix: u8) -> usize {
     match quick_numbers::parse_byte(text, place, radix) {
-        Num::Is { value, next: _ } => { if 240 <= value { 5 } else { 4 } }
-        Num::No { reason: _, at: _ } => 4,
+        Ok(n) if 240 <= n.value => 5,
+        _ => 4,
     }
 }
 
 // The place of the i-th fragment of the R line at a place: behind its letter stand two indexes of two words.
 pub(crate) fn fragment_place(text: &[u8], place: usize, i: usize, radix: u8) -> usize {
     let mut at = word_place(text, place, 5);
-    let mut j: usize = 0;
-    while j < i {
+    for _ in 0..i {
         at = word_place(text, at, fragment_words(text, at, radix));
-        j += 1;
     }
     at
 }

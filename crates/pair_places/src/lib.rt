@@ -5,27 +5,24 @@ ghost use Rattle.pair_places.specs.Places.{PlacesAre};
 
 use text_lines::LineAt;
 
-// The two lines, or that no full line end stands behind the first.
+// Two lines, one behind the other.
 #[derive(Clone, Copy)]
-pub enum PairPlaces {
-    Lines { first: LineAt, second: LineAt },
-    Alone,
+pub struct PairPlaces {
+    pub first: LineAt,
+    pub second: LineAt,
 }
 
-// The two lines at a place; past the end of the text there is no line end.
-pub fn pair_places(t: &[u8], p: usize) -> PairPlaces
+// The two lines at a place, or none where no full line end stands behind the first; past the end of the text there is none.
+pub fn pair_places(t: &[u8], p: usize) -> Option<PairPlaces>
     ensures { PlacesAre t.now p result }
 {
     if t.len() < p {
-        return PairPlaces::Alone;
+        return None;
     }
-    let l = text_lines::line_at(t, p);
-    if l.ends == 0 {
-        return PairPlaces::Alone;
+    let first = text_lines::line_at(t, p);
+    if first.ends == 0 {
+        return None;
     }
-    let k = text_lines::line_at(t, l.next);
-    PairPlaces::Lines {
-        first: l,
-        second: k,
-    }
+    let second = text_lines::line_at(t, first.next);
+    Some(PairPlaces { first, second })
 }

@@ -95,10 +95,8 @@ fn put_fragments(
     requires { (at ≤ 12582912) × (n ≤ 64) }
     ensures { out.new ≡ sets out.old at (flat fragment_numbers (fragments_in ms.now es.now xs.now n)) }
 {
-    let mut i = 0;
-    while i < n {
+    for i in 0..n {
         put_fragment(out, at + 3 * i, i, ms, es, xs);
-        i += 1;
     }
 }
 

@@ -6,14 +6,11 @@ ghost use Rattle.pairs_answer.specs.Told.{told, unlaid};
 ghost use Rattle.pairs_answer.specs.Numbers.{pairs_numbers};
 
 use admission::Gate;
+use answer::Refusal;
 use pair_rows::PairCounts;
 
-// A refusal with its number and place, or the counts.
-#[derive(Clone, Copy)]
-pub enum PairsAnswer {
-    Refusal { number: u32, place: usize },
-    Accepted { counts: PairCounts },
-}
+// The counts, or the text's refusal.
+pub type PairsAnswer = Result<PairCounts, Refusal>;
 
 // A refusal's number and place; or 0, and how many pairs, content bytes and fragments there are.
 #[repr(C)]
@@ -30,19 +27,12 @@ pub struct PairsNumbers {
 pub fn before_laying(gate: Gate) -> PairsAnswer
     ensures { result ≡ unlaid gate }
 {
-    match gate {
-        Gate::Shut { number, place: at } => PairsAnswer::Refusal {
-            number: number,
-            place: at,
-        },
-        Gate::Open => PairsAnswer::Accepted {
-            counts: PairCounts {
-                pairs: 0,
-                content: 0,
-                fragments: 0,
-            },
-        },
-    }
+    gate?;
+    Ok(PairCounts {
+        pairs: 0,
+        content: 0,
+        fragments: 0,
+    })
 }
 
 // The numbers of an answer about records.
@@ -50,14 +40,14 @@ pub fn pairs_numbers(answer: PairsAnswer) -> PairsNumbers
     ensures { result ≡ pairs_numbers (told answer) }
 {
     match answer {
-        PairsAnswer::Refusal { number, place } => PairsNumbers {
-            refusal: number,
-            place: place,
+        Err(refusal) => PairsNumbers {
+            refusal: refusal.number,
+            place: refusal.place,
             pairs: 0,
             content: 0,
             fragments: 0,
         },
-        PairsAnswer::Accepted { counts } => PairsNumbers {
+        Ok(counts) => PairsNumbers {
             refusal: 0,
             place: 0,
             pairs: counts.pairs,

@@ -41,10 +41,8 @@ pub fn put_pairs(
     ensures { Wrote (pairs_out form.big (form_of form).address_length pairs.now content.now fragments.now 0 n) out.old at result out.new }
 {
     let mut p = at;
-    let mut i = 0;
-    while i < n {
+    for i in 0..n {
         p = put_pair(out, p, form, pairs, i, content, fragments);
-        i += 1;
     }
     p
 }

@@ -3,19 +3,15 @@
 use Prim.Native.Nat.{ℕ, zero, suc, ◌+◌}
 use mathlib.Core.Path.{◌≡◌, refl}
 use mathlib.Core.Bool.{Bool, true, false}
-use mathlib.Core.List.{List, [], ◌∷◌}
+use mathlib.Core.List.{List}
 use native.Mathlib.Nat.{add-zero}
 use native.Mathlib.Numerals.{add-one}
-use lib.Dec.{eqb, leb, ltb}
+use lib.Dec.{eqb, ltb}
 use lib.ListN.{get_or, set}
 use Rattle.format.specs.Lists.{pick}
-use Rattle.format.specs.Header.{Form}
-use Rattle.format.specs.Pairs.{Fragment}
-use Rattle.format.specs.Outcome.{Outcome, fine, refused, and_then, fold}
+use Rattle.format.specs.Outcome.{Outcome, fine, refused, and_then}
 use Rattle.format.specs.Fixups.{Fixup, fixups_at}
 use Rattle.format.specs.Placing.{State, Walk, passed_over, write, walk}
-use Rattle.format.specs.WorkLine.{beyond, in_line, step_at, step_all}
-use Rattle.format.specs.WorkLine as defs
 use Rattle.images.specs.Image.{image_walk}
 use Rattle.fixups.specs.Walk.{fixups_walk}
 

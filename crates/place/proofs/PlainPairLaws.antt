@@ -1,8 +1,8 @@
 -- What the proof of `process_relocs` cites of a pair without fragments: it has no fixup, and its content lies in the images as it is.
 -- Assumes nothing.
-use Prim.Native.Nat.{ℕ, ◌+◌, ◌≤◌}
+use Prim.Native.Nat.{ℕ, ◌+◌}
 use mathlib.Core.Path.{◌≡◌, refl, sym, ap, ◌∙◌}
-use mathlib.Core.Bool.{Bool, true, ◌&&◌}
+use mathlib.Core.Bool.{true, ◌&&◌}
 use mathlib.Core.List.{List, []}
 use native.Mathlib.Omega.{arith}
 use lib.Dec.{leb}
@@ -20,7 +20,7 @@ use Rattle.images.proofs.Use.{Laid, plain-when}
 use Rattle.fixups.specs.Walk.{site_of, line_at}
 use Rattle.fixups.proofs.NextLaws.{none_left}
 use Rattle.place.specs.declared.pair.Placed.TheVariants.{Done}
-use Rattle.work.specs.declared.Worked.TheVariants.{Numbers}
+use Rattle.std.specs.Prelude.{Some}
 use Rattle.work.specs.Work.{line_of, turns, all_turns, Whole}
 use Rattle.place.specs.Pair.{site_pair, Prepared, Placeable, PairPlaced}
 use Rattle.place.proofs.WorkedLaws.{prepared-by, walked, pair-processed}
@@ -40,14 +40,14 @@ module _ (s : Site) (bs ms es xs areas symbols vs masks rs : List ℕ) (p : Plac
   unfolding wv wm wk line_of fresh work_line
   plain-line = rw (length-take-le s.line.bytes bs p.lent)
 
-  no-turn : Whole (all_turns s.line ms es (fresh s.line.width (take s.line.bytes bs))) s.line.fragments (Numbers 0) wv wm wk []
+  no-turn : Whole (all_turns s.line ms es (fresh s.line.width (take s.line.bytes bs))) s.line.fragments (Some 0) wv wm wk []
   unfolding all_turns turns fragments_in from
   no-turn = record {
     says = λ ys place. ap fine plain-line ∙ ap (λ (c : ℕ). turns s.line.width s.line.big s.line.bytes place (from (fragment_at ms es ys) 0 c) (fresh s.line.width (take s.line.bytes bs))) (sym h);
     few = omega arith;
   }
 
-  fresh-line : Prepared s bs ms es (Numbers 0) [] wv wm wk
+  fresh-line : Prepared s bs ms es (Some 0) [] wv wm wk
   fresh-line = prepared-by s bs ms es rs p no-turn
 
   no_rows : (place : ℕ) → fine (fixups_in rs s.filled.fixups) ≡ line_at ms es xs areas symbols [] (made_at s 0) wk (fixups_in rs s.filled.fixups) place

@@ -2,18 +2,20 @@
 -- Assumes nothing.
 use Prim.Native.Nat.{ℕ, ◌+◌, ◌*◌, ◌≤◌}
 use mathlib.Core.Path.{◌≡◌, refl, sym, ap, ◌∙◌}
-use mathlib.Core.Bool.{Bool, true, false, ◌&&◌}
+use mathlib.Core.Bool.{true, ◌&&◌}
 use mathlib.Core.List.{List}
-use mathlib.Core.Option.{none, some}
+use mathlib.Core.Option.{some}
 use native.Mathlib.Omega.{arith}
 use lib.Dec.{leb}
-use lib.ListN.{length, take, drop, replicate}
+use lib.ListN.{length, take, drop}
 use lib.Seq.{length-take-le}
 use borrow.Author.Rules.{rules}
 use borrow.Author.Tests.{le-leb}
-use Rattle.format.specs.Lists.{pick}
+use Rattle.std.specs.Prelude.{Result, Ok, Err}
+use Rattle.checks.specs.declared.check.Fault.{Fault}
+use Rattle.checks.specs.declared.check.Fault.TheVariants as fault
 use Rattle.format.specs.Outcome.{Outcome, fine, refused, and_then}
-use Rattle.format.specs.Placing.{State, walk, walk_by, place_at}
+use Rattle.format.specs.Placing.{walk, walk_by, place_at}
 use Rattle.format.specs.WorkLine.{padded, work_line, fresh}
 use Rattle.format.specs.WorkLine as defs
 use Rattle.laws.specs.Rows.{fixups_in, state_of}
@@ -24,16 +26,13 @@ use Rattle.sites.proofs.Fitting.{line-true, ready-true, tables-all}
 use Rattle.images.specs.Image.{image_of, moved, Written}
 use Rattle.images.proofs.CountLaws.{known-still}
 use Rattle.images.proofs.Use.{Walked, imaged-when}
-use Rattle.fixups.specs.declared.pass.Rowed.{Rowed}
-use Rattle.fixups.specs.declared.pass.Rowed.TheVariants as rowed
 use Rattle.fixups.specs.Walk.{site_of, line_at}
 use Rattle.fixups.specs.Pass.{PairRows}
 use Rattle.place.specs.declared.pair.Placed.{Placed}
 use Rattle.place.specs.declared.pair.Placed.TheVariants.{Done, Stopped, Misfit}
-use Rattle.work.specs.declared.Worked.{Worked}
-use Rattle.work.specs.declared.Worked.TheVariants.{Beyond, Numbers}
+use Rattle.std.specs.Prelude.{Option as Answer, Some, None}
 use Rattle.work.specs.Work.{line_of, all_turns, made_by, Whole, WorkIs}
-use Rattle.place.specs.Pair.{form_of, tables_of, pair_at, after_work, site_pair, worked_pair, Prepared, Placeable, PairPlaced}
+use Rattle.place.specs.Pair.{form_of, tables_of, pair_at, after_work, stopped_by, site_pair, worked_pair, Prepared, Placeable, PairPlaced}
 use Rattle.work.proofs.Use.{merged, whole_by}
 use Rattle.place.proofs.Order.{imaged, split}
 
@@ -42,8 +41,8 @@ use Rattle.place.proofs.Order.{imaged, split}
 made-ready : {s : Site} → Ready s → {n : ℕ} → n ≤ 64 → Ready (made_at s n)
 made-ready r h = record { line = r.line; areas = r.areas; symbols = r.symbols; fixups = r.fixups; inside = r.inside; numbers = h }
 
-module _ (s : Site) (ms es xs areas symbols ns wv wm wk vs masks rs : List ℕ) {q : Worked} where
-  pub pair-beyond : q ≡ Beyond → PairPlaced true (worked_pair s q ms es xs areas symbols ns wv wm wk (state_of vs masks rs s.filled.fixups)) s.filled.known vs masks rs (Stopped 10 s.line.place) vs masks rs
+module _ (s : Site) (ms es xs areas symbols ns wv wm wk vs masks rs : List ℕ) {q : Answer ℕ} where
+  pub pair-beyond : q ≡ None → PairPlaced true (worked_pair s q ms es xs areas symbols ns wv wm wk (state_of vs masks rs s.filled.fixups)) s.filled.known vs masks rs (Stopped 10 s.line.place) vs masks rs
   unfolding worked_pair after_work
   pair-beyond g = record {
     says = λ radix end. rw g;
@@ -53,7 +52,7 @@ module _ (s : Site) (ms es xs areas symbols ns wv wm wk vs masks rs : List ℕ) 
     bits = known-still s.filled.known masks refl;
   }
 
-  module _ (ready : Ready s) {n : ℕ} (g : q ≡ Numbers n) where
+  module _ (ready : Ready s) {n : ℕ} (g : q ≡ Some n) where
     worked : (radix place : ℕ) → after_work s q ms es xs areas symbols ns wv wm wk (state_of vs masks rs s.filled.fixups) radix place
         ≡ and_then (line_at ms es xs areas symbols ns (made_at s n) wk (fixups_in rs s.filled.fixups) place)
         (λ ys. fine (record { values = image_of s wv wk vs; masks = image_of s wm wk masks; fixups = ys }))
@@ -75,15 +74,15 @@ module _ (s : Site) (ms es xs areas symbols ns wv wm wk vs masks rs : List ℕ) 
       bits = k;
     }
 
-    module _ (m : made_by q ≤ 64) (space : 9216 ≤ length rs) {r : Rowed} {rs' : List ℕ}
+    module _ (m : made_by q ≤ 64) (space : 9216 ≤ length rs) {r : Result ℕ Fault} {rs' : List ℕ}
         (a : PairRows (is_ready (made_at s n) && leb 9216 (length rs)) (line_at ms es xs areas symbols ns (made_at s n) wk (fixups_in rs s.filled.fixups)) rs r rs') where
       settled : PairRows true (line_at ms es xs areas symbols ns (made_at s n) wk (fixups_in rs s.filled.fixups)) rs r rs'
       settled = rw (ready-true (made-ready ready (rw g at m)), le-leb 9216 (length rs) space) at a
 
-      pub pair-unfit : r ≡ rowed.Misfit → PairPlaced true (worked_pair s q ms es xs areas symbols ns wv wm wk (state_of vs masks rs s.filled.fixups)) s.filled.known vs masks rs Misfit vs masks rs'
+      pair-unfit : r ≡ Err fault.Misfit → PairPlaced true (worked_pair s q ms es xs areas symbols ns wv wm wk (state_of vs masks rs s.filled.fixups)) s.filled.known vs masks rs Misfit vs masks rs'
       pair-unfit e = let b = rw e at (settled.says 0) in let z : ◌≡◌ {A = ℕ} 0 1 = cc in absurd (omega arith)
 
-      pub pair-refused : {x : ℕ} → r ≡ rowed.Refused x → PairPlaced true (worked_pair s q ms es xs areas symbols ns wv wm wk (state_of vs masks rs s.filled.fixups)) s.filled.known vs masks rs (Stopped x s.line.place) vs masks rs'
+      pair-refused : {x : ℕ} → r ≡ Err (fault.Refused x) → PairPlaced true (worked_pair s q ms es xs areas symbols ns wv wm wk (state_of vs masks rs s.filled.fixups)) s.filled.known vs masks rs (Stopped x s.line.place) vs masks rs'
       unfolding worked_pair
       pair-refused {x} e =
           let b : some (refused x s.line.place) ≡ some (line_at ms es xs areas symbols ns (made_at s n) wk (fixups_in rs s.filled.fixups) s.line.place) = rw e at (settled.says s.line.place) in
@@ -97,17 +96,25 @@ module _ (s : Site) (ms es xs areas symbols ns wv wm wk vs masks rs : List ℕ) 
             bits = known-still s.filled.known masks refl;
           }
 
-      pub pair-walked : {x : ℕ} → r ≡ rowed.Rows x → {vs' masks' : List ℕ} {t : ℕ} → Written (is_ready s) (image_of s wv wk vs) (image_of s wm wk masks) s.filled.known vs masks t vs' masks'
+      stop : (f : Fault) → r ≡ Err f → PairPlaced true (worked_pair s q ms es xs areas symbols ns wv wm wk (state_of vs masks rs s.filled.fixups)) s.filled.known vs masks rs (stopped_by f s.line.place) vs masks rs'
+      stop fault.Misfit e = pair-unfit e
+      stop (fault.Refused x) e = pair-refused e
+
+      pub pair-stopped : {f : Fault} → r ≡ Err f → {p : Placed} → p ≡ stopped_by f s.line.place
+          → PairPlaced true (worked_pair s q ms es xs areas symbols ns wv wm wk (state_of vs masks rs s.filled.fixups)) s.filled.known vs masks rs p vs masks rs'
+      pair-stopped {f} e g = rw g (stop f e)
+
+      pub pair-walked : {x : ℕ} → r ≡ Ok x → {vs' masks' : List ℕ} {t : ℕ} → Written (is_ready s) (image_of s wv wk vs) (image_of s wm wk masks) s.filled.known vs masks t vs' masks'
           → PairPlaced true (worked_pair s q ms es xs areas symbols ns wv wm wk (state_of vs masks rs s.filled.fixups)) s.filled.known vs masks rs (Done x t) vs' masks' rs'
       pair-walked {x} e w =
           walked (λ place. let b = rw e at (settled.says place) in cc) (rw e at settled.few) (rw e at settled.rest) (imaged-when ready w) w.answer
 
-pub ruleset relocating = (rules, pair-beyond, pair-unfit, pair-refused, pair-walked)
+pub ruleset relocating = (rules, pair-beyond, pair-stopped, pair-walked)
 
 -- ------------------------------------------------------------------ `place_fragments`
 
 module _ (s : Site) (bs ms es rs : List ℕ) (p : Placeable s bs rs) where
-  pub prepared-by : {q : Worked} {wv wm wk ns : List ℕ} → Whole (all_turns s.line ms es (fresh s.line.width (take s.line.bytes bs))) s.line.fragments q wv wm wk ns → Prepared s bs ms es q ns wv wm wk
+  pub prepared-by : {q : Answer ℕ} {wv wm wk ns : List ℕ} → Whole (all_turns s.line ms es (fresh s.line.width (take s.line.bytes bs))) s.line.fragments q wv wm wk ns → Prepared s bs ms es q ns wv wm wk
   unfolding pair_at place_at all_turns after_work
   prepared-by t = record {
     turned = λ xs areas symbols st radix place.
@@ -117,14 +124,14 @@ module _ (s : Site) (bs ms es rs : List ℕ) (p : Placeable s bs rs) where
     few = omega (arith, t.few, p.ready.line.fragments);
   }
 
-  module _ {wv₀ wm₀ wk₀ ns₀ : List ℕ} {q : Worked} {wv wm wk ns : List ℕ} (w : WorkIs s.line bs ms es wv₀ wm₀ wk₀ ns₀ q wv wm wk ns) where
+  module _ {wv₀ wm₀ wk₀ ns₀ : List ℕ} {q : Answer ℕ} {wv wm wk ns : List ℕ} (w : WorkIs s.line bs ms es wv₀ wm₀ wk₀ ns₀ q wv wm wk ns) where
     pub prepared : Prepared s bs ms es q ns wv wm wk
     prepared = prepared-by (whole_by w (line-true p.ready.line p.lent))
 
     pub few-made : made_by q ≤ 64
     few-made = prepared.few
 
-pub pair-processed : (s : Site) (bs ms es xs areas symbols vs masks rs : List ℕ) {q : Worked} {wv wm wk ns : List ℕ} → Prepared s bs ms es q ns wv wm wk
+pub pair-processed : (s : Site) (bs ms es xs areas symbols vs masks rs : List ℕ) {q : Answer ℕ} {wv wm wk ns : List ℕ} → Prepared s bs ms es q ns wv wm wk
     → {r : Placed} {vs' masks' rs' : List ℕ} → PairPlaced true (worked_pair s q ms es xs areas symbols ns wv wm wk (state_of vs masks rs s.filled.fixups)) s.filled.known vs masks rs r vs' masks' rs'
     → PairPlaced true (site_pair s bs ms es xs areas symbols (state_of vs masks rs s.filled.fixups)) s.filled.known vs masks rs r vs' masks' rs'
 unfolding worked_pair site_pair

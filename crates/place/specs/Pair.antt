@@ -1,6 +1,6 @@
 -- What the placing of one pair answers, in the definition's words.
 -- Assumes nothing.
-use Rattle.std.specs.Prelude.{ℕ, ◌+◌, ◌*◌, ◌≤◌, ◌≡◌, Bool, true, false, ◌&&◌, List, eqb, length, take, drop}
+use Rattle.std.specs.Prelude.{ℕ, ◌+◌, ◌*◌, ◌≤◌, ◌≡◌, Option as Answer, Bool, true, false, ◌&&◌, List, eqb, length, drop}
 use Rattle.std.proofs.Math.Option.{Option, none, some}
 use Rattle.format.specs.Lists.{pick}
 use Rattle.format.specs.Pairs.{placed}
@@ -11,11 +11,12 @@ use Rattle.laws.specs.Rows.{tables_in, state_of}
 use Rattle.homes.specs.declared.Home.{Home}
 use Rattle.sites.specs.declared.Line.{Line}
 use Rattle.sites.specs.declared.Filled.{Filled}
+use Rattle.checks.specs.declared.check.Fault.{Fault}
+use Rattle.checks.specs.declared.check.Fault.TheVariants as fault
 use Rattle.place.specs.declared.pair.Placed.{Placed}
 use Rattle.place.specs.declared.pair.Placed.TheVariants.{Done, Stopped, Misfit}
 use Rattle.sites.specs.declared.Site.{Site}
 use Rattle.sites.specs.Columns.{fragments_in}
-use Rattle.work.specs.declared.Worked.{Worked}
 use Rattle.images.specs.Image.{moved}
 use Rattle.work.specs.Work as work
 pub use Rattle.work.specs.Work.{form_of, content_of}
@@ -38,7 +39,7 @@ pair_at s bs ms es xs areas symbols st radix place =
     place_at (form_of radix s.line) (tables_of areas symbols s) place s.id s.start s.size (content_of s.line bs) (fragments_in ms es xs s.line.fragments) st
 
 -- the same with the work line as the fragments left it
-unfoldable pub after_work : Site → Worked → (ms es xs areas symbols ns wv wm wk : List ℕ) → State → (radix place : ℕ) → Outcome State
+unfoldable pub after_work : Site → Answer ℕ → (ms es xs areas symbols ns wv wm wk : List ℕ) → State → (radix place : ℕ) → Outcome State
 after_work s worked ms es xs areas symbols ns wv wm wk st radix place =
     and_then (work.told place worked wv wm wk ns) (λ d.
     walk (walk_by (tables_of areas symbols s) place s.id s.start s.size (fragments_in ms es xs s.line.fragments) d) (s.line.width + s.line.bytes) 0 s.line.address st)
@@ -47,7 +48,7 @@ after_work s worked ms es xs areas symbols ns wv wm wk st radix place =
 unfoldable pub site_pair : Site → (bs ms es xs areas symbols : List ℕ) → State → (radix end : ℕ) → Outcome State
 site_pair s bs ms es xs areas symbols st radix end = pair_at s bs ms es xs areas symbols st radix s.line.place
 
-unfoldable pub worked_pair : Site → Worked → (ms es xs areas symbols ns wv wm wk : List ℕ) → State → (radix end : ℕ) → Outcome State
+unfoldable pub worked_pair : Site → Answer ℕ → (ms es xs areas symbols ns wv wm wk : List ℕ) → State → (radix end : ℕ) → Outcome State
 worked_pair s worked ms es xs areas symbols ns wv wm wk st radix end = after_work s worked ms es xs areas symbols ns wv wm wk st radix s.line.place
 
 -- the same for a pair at a home
@@ -61,6 +62,11 @@ pair_in l h bs ms es xs areas symbols n st radix end = pair_by l n h.start h.siz
 -- whether a pair can be placed: the home is its area's, 5 to 9 are ruled out, and the lent rows have room
 unfoldable pub fits : Line → Home → (bs : List ℕ) → Filled → (rows : List ℕ) → Bool
 fits l h bs n rows = eqb h.area l.area && ((line_fits l (length bs) && filled_fits n (length rows)) && kept_fits h.start h.size (last_index h.id))
+
+-- what a pair comes to that is not placed
+abbrev pub stopped_by : Fault → (place : ℕ) → Placed
+stopped_by fault.Misfit place = Misfit
+stopped_by (fault.Refused n) place = Stopped n place
 
 -- what an answer says, with the images and the rows as they are then
 abbrev pub told : Placed → (vs ms rows : List ℕ) → Option (Outcome State)
@@ -87,7 +93,7 @@ changes (Stopped n p) = false
 changes Misfit = false
 
 -- a work line with the pair's fragments worked in
-pub record Prepared (s : Site) (bs ms es : List ℕ) (r : Worked) (ns wv wm wk : List ℕ) : Type 0 where
+pub record Prepared (s : Site) (bs ms es : List ℕ) (r : Answer ℕ) (ns wv wm wk : List ℕ) : Type 0 where
   pub turned : (xs areas symbols : List ℕ) (st : State) (radix place : ℕ) → pair_at s bs ms es xs areas symbols st radix place ≡ after_work s r ms es xs areas symbols ns wv wm wk st radix place
   pub few : work.made_by r ≤ 64
 

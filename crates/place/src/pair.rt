@@ -1,17 +1,18 @@
 // A T and R pair of any area: one of a kept area is placed, any other changes nothing.
-ghost use Rattle.std.specs.Prelude.{true, ◌≤◌, length};
+ghost use Rattle.std.specs.Prelude.{true, ◌≡◌, ◌≤◌, length};
 ghost use Rattle.laws.specs.Rows.{state_of};
 ghost use Rattle.sites.specs.Site.{Ready};
 ghost use Rattle.work.specs.Work.{made_by};
-ghost use Rattle.place.specs.Pair.{fits, worked_pair, site_pair, pair_in, Placeable, PairPlaced};
+ghost use Rattle.place.specs.Pair.{fits, stopped_by, worked_pair, site_pair, pair_in, Placeable, PairPlaced};
 
 use cells::wide;
-use fixups::{Rowed, pair_rows};
+use checks::Fault;
+use fixups::pair_rows;
 use homes::Home;
 use images::{write_image, write_plain};
 use located::{Found, home_fits, locate};
 use sites::{Filled, Line, Site};
-use work::{Worked, work_line};
+use work::work_line;
 
 // How many fixup rows there are then, and the known bits of the area; a refusal's number with the T line's place; or that the numbers do not fit.
 #[derive(Clone, Copy)]
@@ -21,10 +22,20 @@ pub enum Placed {
     Misfit,
 }
 
+// What a pair comes to that is not placed: a refusal comes with the T line's place.
+fn stopped(fault: Fault, place: usize) -> Placed
+    ensures { result ≡ stopped_by fault place }
+{
+    match fault {
+        Fault::Misfit => Placed::Misfit,
+        Fault::Refused(n) => Placed::Stopped(n, place),
+    }
+}
+
 // A pair with its work line worked in, or 10: its fixup rows, or 11 to 13; then its bytes.
 fn place_worked(
     site: Site,
-    worked: Worked,
+    worked: Option<usize>,
     ms: &[u32],
     es: &[u32],
     xs: &[u32],
@@ -42,13 +53,12 @@ fn place_worked(
     requires worked_bound { (made_by worked ≤ 64) × (9216 ≤ length rows.old) }
     ensures { PairPlaced true (worked_pair site worked ms.now es.now xs.now areas.now symbols.now ns.now wv.now wm.now wk.now (state_of values.old masks.old rows.old site.filled.fixups)) site.filled.known values.old masks.old rows.old result values.new masks.new rows.new }
 {
-    let Worked::Numbers(n) = worked else {
+    let Some(n) = worked else {
         return Placed::Stopped(10, site.line.place);
     };
     match pair_rows(site, n, ms, es, xs, areas, symbols, ns, wk, rows) {
-        Rowed::Misfit => Placed::Misfit,
-        Rowed::Refused(x) => Placed::Stopped(x, site.line.place),
-        Rowed::Rows(k) => {
+        Err(fault) => stopped(fault, site.line.place),
+        Ok(k) => {
             let known = write_image(site, wv, wm, wk, values, masks);
             Placed::Done(k, known)
         }

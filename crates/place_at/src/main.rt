@@ -4,8 +4,7 @@
 mod module;
 mod told;
 
-use alike::same_name;
-use console::{Input, Room};
+use console::Room;
 use host::Host;
 use module::Asked;
 use rooms::INPUT_ROOM;
@@ -24,10 +23,10 @@ fn first_of(word: &[u8]) -> First {
     if help_word::asks_help(word) {
         return First::Help;
     }
-    if same_name(word, b"-b") {
-        return First::Raw;
+    match word {
+        b"-b" => First::Raw,
+        _ => First::Lines,
     }
-    First::Lines
 }
 
 // What the first argument asks for; without one the lines.
@@ -51,8 +50,8 @@ fn place_first(rt: &impl Env, room: &Room, n: usize, asked: Asked) {
 fn place_standard(rt: &impl Host, asked: Asked) {
     let mut room = empty_room();
     match console::fill(&mut rt.reader(), &mut room) {
-        Input::Failed(why) => console::tell_reason(b"-", why),
-        Input::Text(n) => place_first(rt, &room, n, asked),
+        Err(why) => console::tell_reason(b"-", why),
+        Ok(n) => place_first(rt, &room, n, asked),
     }
 }
 

@@ -120,10 +120,7 @@ fn write(
 
 // The addresses of symbols, behind those of areas.
 fn of_symbols(addresses: &[u64]) -> &[u64] {
-    if addresses.len() < 64 {
-        return addresses;
-    }
-    &addresses[64..]
+    addresses.get(64..).unwrap_or(addresses)
 }
 
 // A text's code at the addresses.
@@ -181,10 +178,18 @@ pub(crate) fn place_text(rt: &impl Env, text: &[u8], asked: Asked) {
     let mut symbols = empty_symbols();
     let mut fixups = empty_fixups();
     match read(text, &mut areas, &mut symbols, &mut fixups) {
-        Answer::Refusal { number, place } => refused(number, place, asked.raw),
-        Answer::Accepted { counts, verdict } => match verdict {
+        Err(refusal) => refused(refusal.number, refusal.place, asked.raw),
+        Ok(told) => match told.verdict {
             Verdict::Stopped { place } => console::tell_place(b"-", place),
-            Verdict::Finished => place_read(rt, text, asked, counts, &areas, &symbols, &fixups),
+            Verdict::Finished => place_read(
+                rt,
+                text,
+                asked,
+                told.counts,
+                &areas,
+                &symbols,
+                &fixups,
+            ),
         },
     }
 }

@@ -30,8 +30,9 @@ use Rattle.record_rows.specs.RecordRows.{content_bytes, fragment_rows, pair_coun
 use Rattle.record_rows.proofs.Roomy.{few-records}
 use Rattle.pairs_answer.specs.Told.{held}
 use Rattle.pairs_answer.specs.Told as rows
-use Rattle.pairs_answer.specs.declared.PairsAnswer.{PairsAnswer}
-use Rattle.pairs_answer.specs.declared.PairsAnswer.TheVariants as pairs
+use Rattle.std.specs.Prelude.{Ok, Err}
+use Rattle.answer.specs.declared.Refusal as answers
+use Rattle.pairs_answer.specs.Told.{PairsAnswer}
 use Rattle.pair_rows.specs.declared.PairCounts.{PairCounts}
 use Rattle.record_parts.specs.Parts.{placed_of}
 use Rattle.record_parts.proofs.Decoded.{Standing}
@@ -224,17 +225,17 @@ module _ (s ps₀ bs₀ fs₀ chosen outside old : List ℕ) (lp : length ps₀ 
   unfolding code_of
   enough-room = rw (le-leb 65536 (length old) long)
 
-  refused-is : (n p : ℕ) → q ≡ pairs.Refusal n p → code_of s chosen outside (length old) ≡ refused n p
+  refused-is : (n p : ℕ) → q ≡ (Err (record { number = n; place = p })) → code_of s chosen outside (length old) ≡ refused n p
   refused-is n p e = enough-room ∙ go (read true roomy s) (rw e at says-it)
     where
       go : (o : Outcome Read) → paper.refusal n p ≡ (paper.pairs_from o).answer → and_then o (code_in chosen outside) ≡ refused n p
       go (refused a b) h = let x : n ≡ a = cc in let y : p ≡ b = cc in rw (x, y)
       go (fine w) h = let z : ◌≡◌ {A = ℕ} 0 1 = cc in let y : ⊥ = omega arith in absurd y
 
-  pub records-refused : {n p : ℕ} → q ≡ pairs.Refusal n p → CodeIs s chosen outside old (Refusal n p) old
-  records-refused {n} {p} e = record { says = sym (ap count_of (refused-is n p e)); held = sym (ap (λ (o : Outcome (List ℕ)). held_after o old) (refused-is n p e)) }
+  pub records-refused : {z : answers.Refusal} → q ≡ Err z → CodeIs s chosen outside old (Refusal z.number z.place) old
+  records-refused {z} e = record { says = sym (ap count_of (refused-is z.number z.place e)); held = sym (ap (λ (o : Outcome (List ℕ)). held_after o old) (refused-is z.number z.place e)) }
 
-  module _ {c : PairCounts} (e : q ≡ pairs.Accepted c) where
+  module _ {c : PairCounts} (e : q ≡ Ok c) where
     pub records-placed : {r : Placed} {new : List ℕ} → ReadPlaced s chosen outside old r new → CodeIs s chosen outside old r new
     records-placed a =
         let v = records-read s ps₀ bs₀ fs₀ q m e in

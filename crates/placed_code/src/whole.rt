@@ -5,7 +5,6 @@ ghost use Rattle.one_position.specs.Explain.{Rowed};
 ghost use Rattle.placed_code.specs.Code.{CodeIs, ReadPlaced};
 
 use crate::found::tables_of;
-use pairs_answer::PairsAnswer;
 use placed_rows::{Placed, place_rows};
 use records::read_pairs;
 use rooms::{AREA_ROOM, IMAGE_ROOM, SYMBOL_ROOM};
@@ -74,11 +73,11 @@ fn by_records(
     ensures { CodeIs text.now areas.now outside.now out.old result out.new }
 {
     match read_pairs(text, pairs, content, fragments) {
-        PairsAnswer::Refusal { number, place } => Placed::Refusal {
-            number: number,
-            place: place,
+        Err(refusal) => Placed::Refusal {
+            number: refusal.number,
+            place: refusal.place,
         },
-        PairsAnswer::Accepted { counts } => by_rows(
+        Ok(counts) => by_rows(
             text,
             pairs,
             content,

@@ -1,7 +1,6 @@
 // The lines of kept areas.
 use crate::{Shape, fixup};
 use address_arguments::Addresses;
-use kept_areas::Id;
 use rooms::{AREA_ROOM, FIXUP_ROOM, SYMBOL_ROOM};
 use sink::{Buffer, Sink};
 
@@ -35,11 +34,9 @@ fn byte(s: Sink, out: &mut Buffer, b: u8) -> Sink {
 // The rows of an area's bytes.
 fn rows(s: Sink, out: &mut Buffer, address: u64, bytes: &[u8]) -> Sink {
     let mut now = s;
-    let mut i = 0;
-    while i < bytes.len() {
+    for (i, b) in bytes.iter().enumerate() {
         let begun = row_start(now, out, address, i);
-        now = byte(begun, out, bytes[i]);
-        i += 1;
+        now = byte(begun, out, *b);
     }
     sink::put(now, out, b"\n")
 }
@@ -58,8 +55,8 @@ fn area(
     placed: &[u8],
 ) -> Sink {
     match kept_areas::area_id(areas, shape.areas, i) {
-        Id::Unkept => s,
-        Id::Kept { id } => {
+        None => s,
+        Some(id) => {
             let address = fixup::chosen(addresses, id);
             let bytes = kept_areas::area_image(placed, areas, shape.areas, i);
             let s1 = title(s, out, i, id, address, bytes.len());
@@ -82,13 +79,10 @@ pub fn lines(
     placed: &[u8],
 ) -> Sink {
     let mut now = s;
-    let mut i = 0;
-    let n = shape.areas;
-    while i < n {
+    for i in 0..shape.areas {
         now = area(
             now, out, text, shape, i, areas, symbols, fixups, addresses, placed,
         );
-        i += 1;
     }
     now
 }

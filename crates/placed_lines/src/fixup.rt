@@ -4,7 +4,7 @@ use address_arguments::Addresses;
 use fixup_rows::Fixup;
 use rooms::{FIXUP_ROOM, SYMBOL_ROOM};
 use sink::{Buffer, Sink};
-use target_asked::Answer;
+use target_asked::Refusal;
 use target_words::add64;
 
 // A word and an address, in sixteen digits.
@@ -39,8 +39,8 @@ fn referred(
 fn leads(s: Sink, out: &mut Buffer, f: Fixup, big: bool, at: u64, bytes: &[u8]) -> Sink {
     let site = row_parts::part(bytes, cells::wide(f.position), cells::wide(f.size));
     match corrected::corrected_target(f.mode, big, f.number, at, site) {
-        Answer::At(t) => address(s, out, b" target ", t),
-        Answer::Refused { number, place: _ } => texts::decimal(
+        Ok(t) => address(s, out, b" target ", t),
+        Err(Refusal { number, place: _ }) => texts::decimal(
             s,
             out,
             b" target refused ",
@@ -92,14 +92,11 @@ pub(crate) fn lines(
 ) -> Sink {
     let range = fixup_rows::area_fixups(fixups, shape.fixups, id);
     let home = chosen(addresses, id);
-    let end = range.end;
     let mut now = s;
-    let mut j = range.start;
-    while j < end {
+    for j in range.start..range.end {
         now = row(
             now, out, text, shape, j, home, symbols, fixups, addresses, bytes,
         );
-        j += 1;
     }
     now
 }

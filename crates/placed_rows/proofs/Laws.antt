@@ -1,26 +1,21 @@
 -- What the proofs of placed rows share: a law for each return.
 -- Assumes nothing.
-use Prim.Native.Nat.{ℕ, min, ◌≤◌, ◌<◌}
-use mathlib.Core.Path.{◌≡◌, refl, ap, sym, ◌∙◌}
+use Prim.Native.Nat.{ℕ, min}
+use mathlib.Core.Path.{◌≡◌, refl, sym, ◌∙◌}
 use mathlib.Core.Bool.{Bool, true, false, not, ◌&&◌}
 use mathlib.Core.List.{List}
 use lib.ListN.{length, replicate}
-use lib.Seq.{sets, length-sets}
+use lib.Seq.{sets}
 use lib.Dec.{leb}
 use borrow.Author.Rules.{rules}
-use borrow.Author.Tests.{le-leb, lt-leb, not-true}
-use Rattle.format.specs.Lists.{pick}
-use Rattle.format.specs.Outcome.{fine, refused}
-use Rattle.format.specs.Tables.{kept_count, total}
-use Rattle.laws.specs.Rows.{areas_in}
+use borrow.Author.Tests.{not-true}
 use Rattle.sites.specs.declared.Filled.{Filled}
 use Rattle.kept_sizes.specs.declared.Sizes.{Sizes}
 use Rattle.kept_sizes.specs.Sizes.{few, SizesAre}
 use Rattle.fit_rows.specs.Fits.{fits_rows}
 use Rattle.laid_rows.specs.Over.{around, rows_over}
-use Rattle.placed_rows.specs.declared.Placed.{Placed}
 use Rattle.placed_rows.specs.declared.Placed.TheVariants.{Refusal, Done}
-use Rattle.placed_rows.specs.Placed.{told, enough, answer_by, RowsPlaced}
+use Rattle.placed_rows.specs.Placed.{enough, answer_by, RowsPlaced}
 
 is_false : (b : Bool) → not b ≡ true → b ≡ false
 is_false b h = not-true b h
@@ -28,37 +23,6 @@ is_false b h = not-true b h
 is_true : (b : Bool) → not b ≡ false → b ≡ true
 is_true true h = refl
 is_true false h = sym h
-
--- `is_enough`
-module _ (kept ns chosen outside : ℕ) where
-  pub few-areas : chosen < kept → false ≡ (leb kept chosen && leb ns outside)
-  few-areas h = rw (lt-leb kept chosen h)
-
-  pub areas-do : kept ≤ chosen → leb ns outside ≡ (leb kept chosen && leb ns outside)
-  areas-do h = rw (le-leb kept chosen h)
-
-pub ruleset addresses = (rules, few-areas, areas-do)
-
--- `room_if`
-pub room-yes : (good : Bool) (n : ℕ) → good ≡ true → n ≡ pick good n 0
-room-yes good n h = rw h
-
-pub room-no : (good : Bool) (n : ℕ) → good ≡ false → 0 ≡ pick good n 0
-room-no good n h = rw h
-
-pub ruleset rooms = (rules, room-yes, room-no)
-
--- `lay_if`
-module _ (good : Bool) (many : ℕ) (areas symbols : List ℕ) (filled : Filled) (pairs content fragments : List ℕ) (n : ℕ) (big : Bool) (width : ℕ) (chosen outside out : List ℕ)
-    {room : ℕ} (er : room ≡ pick good many 0) {cleared : List ℕ} (ec : cleared ≡ sets out 0 (replicate room 0)) where
-  pub lay-not : not good ≡ true → cleared ≡ pick good (rows_over big width (around areas symbols filled chosen outside) pairs content fragments 0 (min n 4096) (sets out 0 (replicate many 0))) out
-  lay-not h = let b : good ≡ false = is_false good h in ec ∙ rw (er, b)
-
-  pub lay-good : not good ≡ false → {out' : List ℕ} → out' ≡ rows_over big width (around areas symbols filled chosen outside) pairs content fragments 0 (min n 4096) cleared
-      → out' ≡ pick good (rows_over big width (around areas symbols filled chosen outside) pairs content fragments 0 (min n 4096) (sets out 0 (replicate many 0))) out
-  lay-good h e = let b : good ≡ true = is_true good h in e ∙ rw (ec, er, b)
-
-pub ruleset laying = (rules, lay-not, lay-good)
 
 -- `place_rows`
 module _ (areas symbols : List ℕ) (filled : Filled) (pairs content fragments : List ℕ) (n : ℕ) (big : Bool) (width : ℕ) (chosen outside out : List ℕ)
@@ -71,17 +35,18 @@ module _ (areas symbols : List ℕ) (filled : Filled) (pairs content fragments :
   unfolding answer_by
   place-few h = let b : e ≡ false = is_false e h in record { says = rw (enough-is, b); held = rw (enough-is, b) }
 
-  module _ (h : not e ≡ false) {g : Bool} (eg : g ≡ fits_rows areas filled.areas pairs fragments n width) {out' : List ℕ}
-      (eo : out' ≡ pick g (rows_over big width (around areas symbols filled chosen outside) pairs content fragments 0 (min n 4096) (sets out 0 (replicate z.total 0))) out) where
+  module _ (h : not e ≡ false) {g : Bool} (eg : g ≡ fits_rows areas filled.areas pairs fragments n width) where
     all_there : e ≡ true
     all_there = is_true e h
 
-    pub place-unfit : not g ≡ true → RowsPlaced areas symbols filled pairs content fragments n big width chosen outside out (Refusal 25 0) out'
+    pub place-unfit : not g ≡ true → RowsPlaced areas symbols filled pairs content fragments n big width chosen outside out (Refusal 25 0) out
     unfolding answer_by
-    place-unfit f = let b : g ≡ false = is_false g f in record { says = rw (enough-is, all_there, ← eg, b); held = eo ∙ rw (enough-is, all_there, ← eg, b) }
+    place-unfit f = let b : g ≡ false = is_false g f in record { says = rw (enough-is, all_there, ← eg, b); held = rw (enough-is, all_there, ← eg, b) }
 
-    pub place-done : not g ≡ false → RowsPlaced areas symbols filled pairs content fragments n big width chosen outside out (Done z.total) out'
+    pub place-done : not g ≡ false → {cleared out' : List ℕ} → cleared ≡ sets out 0 (replicate z.total 0)
+        → out' ≡ rows_over big width (around areas symbols filled chosen outside) pairs content fragments 0 (min n 4096) cleared
+        → RowsPlaced areas symbols filled pairs content fragments n big width chosen outside out (Done z.total) out'
     unfolding answer_by
-    place-done f = let b : g ≡ true = is_true g f in record { says = rw (enough-is, all_there, ← eg, b, Z.total-is); held = eo ∙ rw (enough-is, all_there, ← eg, b, Z.total-is) }
+    place-done f ec eo = let b : g ≡ true = is_true g f in record { says = rw (enough-is, all_there, ← eg, b, Z.total-is); held = eo ∙ rw (enough-is, all_there, ← eg, b, ec, Z.total-is) }
 
 pub ruleset placing = (rules, place-few, place-unfit, place-done)

@@ -1,6 +1,6 @@
 -- The rows of a module's records placed at chosen addresses: too few addresses, then the conditions, then the bytes.
 -- Assumes nothing.
-use Rattle.std.specs.Prelude.{ℕ, min, ◌≡◌, Bool, true, false, ◌&&◌, List, length, replicate, leb}
+use Rattle.std.specs.Prelude.{ℕ, min, ◌≡◌, Bool, ◌&&◌, List, length, replicate, leb}
 use Rattle.std.proofs.lemmas.List.Edits.{sets}
 use Rattle.format.specs.Lists.{pick}
 use Rattle.format.specs.Outcome.{Outcome, fine, refused}

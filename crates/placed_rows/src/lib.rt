@@ -1,10 +1,7 @@
 // The rows of a module's records placed at chosen addresses in a lent buffer; a refusal changes no byte of it.
 #![tactic(auto)]
 
-ghost use Rattle.std.specs.Prelude.{◌≡◌, min, replicate, leb, ◌&&◌};
-ghost use Rattle.format.specs.Lists.{pick};
-ghost use Rattle.std.proofs.lemmas.List.Edits.{sets};
-ghost use Rattle.laid_rows.specs.Over.{around, rows_over};
+ghost use Rattle.std.specs.Prelude.{◌≡◌, leb, ◌&&◌};
 ghost use Rattle.placed_rows.specs.Placed.{RowsPlaced};
 
 use cells::fill_bytes;
@@ -25,45 +22,7 @@ pub enum Placed {
 fn is_enough(kept: usize, ns: usize, chosen: usize, outside: usize) -> bool
     ensures { result ≡ (leb kept chosen && leb ns outside) }
 {
-    if chosen < kept {
-        return false;
-    }
-    ns <= outside
-}
-
-// So many, or none.
-fn room_if(good: bool, n: usize) -> usize
-    ensures { result ≡ pick good n 0 }
-{
-    if good { n } else { 0 }
-}
-
-// If the conditions hold, so many zeros and the first n pairs laid over them; else nothing.
-fn lay_if(
-    good: bool,
-    total: usize,
-    areas: &[u32],
-    symbols: &[u32],
-    filled: Filled,
-    pairs: &[u32],
-    content: &[u8],
-    fragments: &[u32],
-    n: usize,
-    big: bool,
-    width: u32,
-    chosen: &[u64],
-    outside: &[u64],
-    out: &mut [u8],
-)
-    ensures { out.new ≡ pick good (rows_over big width (around areas.now symbols.now filled chosen.now outside.now) pairs.now content.now fragments.now 0 (min n 4096) (sets out.old 0 (replicate total 0))) out.old }
-{
-    fill_bytes(out, 0, room_if(good, total), 0);
-    if !good {
-        return;
-    }
-    lay_pairs(
-        pairs, content, fragments, n, big, width, areas, symbols, filled, chosen, outside, out,
-    )
+    kept <= chosen && ns <= outside
 }
 
 // 1 for too few addresses, 25 for pairs outside the conditions; else the bytes of all kept areas, one behind the other.
@@ -90,17 +49,15 @@ pub fn place_rows(
             place: 0,
         };
     }
-    let good = fits_rows(areas, filled.areas, pairs, fragments, n, width);
-    let total = sizes.total;
-    lay_if(
-        good, total, areas, symbols, filled, pairs, content, fragments, n, big, width, chosen,
-        outside, out,
-    );
-    if !good {
+    if !fits_rows(areas, filled.areas, pairs, fragments, n, width) {
         return Placed::Refusal {
             number: 25,
             place: 0,
         };
     }
-    Placed::Done { bytes: total }
+    fill_bytes(out, 0, sizes.total, 0);
+    lay_pairs(
+        pairs, content, fragments, n, big, width, areas, symbols, filled, chosen, outside, out,
+    );
+    Placed::Done { bytes: sizes.total }
 }

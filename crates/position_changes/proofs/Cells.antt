@@ -1,14 +1,13 @@
 -- The laws of positions.
 -- Assumes nothing.
-use Prim.Native.Nat.{ℕ, zero, suc, ◌+◌, ◌-◌, ◌<◌, ◌≤◌}
+use Prim.Native.Nat.{ℕ, zero, suc, ◌+◌, ◌<◌, ◌≤◌}
 use mathlib.Core.Path.{◌≡◌, refl, ap, subst, sym, ◌∙◌}
 use mathlib.Core.Bool.{Bool, true, false, not, ◌&&◌}
 use mathlib.Core.List.{List, [], ◌∷◌, ◌++◌}
 use mathlib.Core.Option.{Option, none, some}
 use native.Mathlib.Omega.{arith}
 use native.Mathlib.Numerals.{add-one}
-use lib.ListN.{length, drop, get_or, drop_of_length-le, length-drop}
-use lib.Seq.{drop-cons}
+use lib.ListN.{length, drop, get_or}
 use lib.Dec.{leb, ltb}
 use borrow.Author.Rules.{rules}
 use borrow.Author.Tests.{le-leb, leb-true, leb-false, lt-leb, lt-ltb, le-ltb, ltb-true, ltb-false, not-false, not-true}
@@ -19,7 +18,9 @@ use Rattle.difference.specs.Rows.{change_numbers}
 use Rattle.change_rows.specs.Room.{paired_masks}
 use Rattle.change_rows.proofs.Room.{all_true, image-low, later-false, mask-each, masks-are, one-false, walk-left, walk-taken}
 use Rattle.change_rows.specs.Walk.{Added, Put, Walked, WalkedIf}
-use Rattle.position_changes.specs.Here.{Larger, cell_at}
+use Rattle.std.specs.Prelude.{Option as Answer, Some, None}
+use Rattle.position_tests.specs.declared.tests.Cell as code
+use Rattle.position_changes.specs.Here.{Larger, cell_at, told_cell}
 use Rattle.change_rows.proofs.Going.{Going, going_end, going_start, going_step, no_row, one-row, put-added}
 
 -- `both`
@@ -40,7 +41,7 @@ module _ (id at ov om nv nm : ℕ) where
 
 pub ruleset boths = (rules, both-same, both-other)
 
--- `position`
+-- `cell_at`
 module _ (v m : List ℕ) (i : ℕ) where
   cell-there : i < length v → cell_at v m i ≡ some (record { value = get_or v i 0; mask = get_or m i 0 })
   unfolding cell_at
@@ -50,40 +51,36 @@ module _ (v m : List ℕ) (i : ℕ) where
   unfolding cell_at
   cell-none h = rw (le-ltb i (length v) h)
 
-module _ (v m w k : List ℕ) (i id : ℕ) (b : Bool) (list : List ℕ) (n : ℕ) where
-  abbrev at_i : List Change
-  at_i = position_change id i (cell_at v m i) (cell_at w k i)
+  pub cell-past : length v ≤ i → none ≡ cell_at v m i
+  cell-past h = sym (cell-none h)
 
-  pub position-neither : length v ≤ i → length w ≤ i → Walked b list n at_i 1 n list
+  pub cell-is : i < length v → {a b : ℕ} → b ≡ get_or m i 0 → a ≡ get_or v i 0 → some (record { value = a; mask = b }) ≡ cell_at v m i
+  cell-is h e f = sym (cell-there h ∙ rw (← e, ← f))
+
+pub ruleset the_cells = (rules, cell-past, cell-is)
+
+-- `position`
+abbrev change_at : (v m w k : List ℕ) (i id : ℕ) → List Change
+change_at v m w k i id = position_change id i (cell_at v m i) (cell_at w k i)
+
+module _ (v m w k : List ℕ) (i id : ℕ) (b : Bool) (list : List ℕ) (n : ℕ) {x y : Answer code.Cell} (p : told_cell x ≡ cell_at v m i) (q : told_cell y ≡ cell_at w k i) where
+  by : {c d : Answer code.Cell} → x ≡ c → y ≡ d → (change_at v m w k i id) ≡ position_change id i (told_cell c) (told_cell d)
+  by {c} f g = ap (λ (z : Option Cell). position_change id i z (cell_at w k i)) (sym p ∙ ap told_cell f) ∙ ap (λ (z : Option Cell). position_change id i (told_cell c) z) (sym q ∙ ap told_cell g)
+
+  pub position-neither : x ≡ None → y ≡ None → Walked b list n (change_at v m w k i id) 1 n list
   unfolding position_change
-  position-neither f g = no_row b list n at_i 1 (ap (λ (x : Option Cell). position_change id i x (cell_at w k i)) (cell-none v m i f) ∙ ap (λ (x : Option Cell). position_change id i none x) (cell-none w k i g))
+  position-neither f g = no_row b list n (change_at v m w k i id) 1 (by f g)
 
-  module _ {x : ℕ} (z : x ≡ i) where
-    module _ (f : i < length v) {ov om : ℕ} (p : ov ≡ get_or v i 0) (q : om ≡ get_or m i 0) where
-      old-cell : cell_at v m i ≡ some (record { value = ov; mask = om })
-      old-cell = cell-there v m i f ∙ rw (p, q)
-
-      pub position-both : i < length w → {nv nm : ℕ} {r : ℕ} {after : List ℕ} → nv ≡ get_or w i 0 → nm ≡ get_or k i 0
-          → Walked b list n (position_change id x (some (record { value = ov; mask = om })) (some (record { value = nv; mask = nm }))) 1 r after → Walked b list n at_i 1 r after
-      position-both g {nv} {nm} s t h =
-          let new : cell_at w k i ≡ some (record { value = nv; mask = nm }) = cell-there w k i g ∙ rw (s, t) in
-          rw (old-cell, new, ← z) h
-
-      pub position-old : length w ≤ i → {r : ℕ} {after : List ℕ} → Added b list n (1 ∷ id ∷ x ∷ ov ∷ om ∷ 0 ∷ 0 ∷ 0 ∷ []) r after → Walked b list n at_i 1 r after
-      unfolding position_change change_numbers
-      position-old g h =
-          one-row h (position id i (some (record { value = ov; mask = om })) none) (cc) at_i
-          (ap (λ (y : Option Cell). position_change id i y (cell_at w k i)) old-cell ∙ ap (λ (y : Option Cell). position_change id i (some (record { value = ov; mask = om })) y) (cell-none w k i g))
-
-    pub position-new : length v ≤ i → i < length w → {nv nm : ℕ} → nv ≡ get_or w i 0 → nm ≡ get_or k i 0 → {r : ℕ} {after : List ℕ}
-        → Added b list n (2 ∷ id ∷ x ∷ 0 ∷ 0 ∷ nv ∷ nm ∷ 0 ∷ []) r after → Walked b list n at_i 1 r after
+  module _ {o c : ℕ} {r : ℕ} {after : List ℕ} where
+    pub position-old : {ov om : ℕ} → x ≡ Some (record { value = ov; mask = om }) → y ≡ None → Added b list n (1 ∷ id ∷ i ∷ ov ∷ om ∷ o ∷ c ∷ 0 ∷ []) r after → o ≡ 0 → c ≡ 0 → Walked b list n (change_at v m w k i id) 1 r after
     unfolding position_change change_numbers
-    position-new f g {nv} {nm} p q h =
-        let new : cell_at w k i ≡ some (record { value = nv; mask = nm }) = cell-there w k i g ∙ rw (p, q) in
-        one-row h (position id i none (some (record { value = nv; mask = nm }))) (cc) at_i
-        (ap (λ (y : Option Cell). position_change id i y (cell_at w k i)) (cell-none v m i f) ∙ ap (λ (y : Option Cell). position_change id i none y) new)
+    position-old {ov} {om} f g h s t = one-row h (position id i (some (record { value = ov; mask = om })) none) (rw (s, t)) (change_at v m w k i id) (by f g)
 
-pub ruleset places = (rules, position-neither, position-both, position-old, position-new)
+    pub position-new : {nv nm : ℕ} → x ≡ None → y ≡ Some (record { value = nv; mask = nm }) → Added b list n (2 ∷ id ∷ i ∷ o ∷ c ∷ nv ∷ nm ∷ 0 ∷ []) r after → o ≡ 0 → c ≡ 0 → Walked b list n (change_at v m w k i id) 1 r after
+    unfolding position_change change_numbers
+    position-new {nv} {nm} f g h s t = one-row h (position id i none (some (record { value = nv; mask = nm }))) (rw (s, t)) (change_at v m w k i id) (by f g)
+
+pub ruleset places = (rules, position-neither, position-old, position-new)
 
 -- the cells from one on
 cells-drop : (v m : List ℕ) (i : ℕ) → length m ≡ length v → i < length v → drop i (cells v m) ≡ record { value = get_or v i 0; mask = get_or m i 0 } ∷ drop (suc i) (cells v m)

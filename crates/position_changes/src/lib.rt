@@ -7,20 +7,13 @@ ghost use Rattle.difference.specs.Module.{cells};
 ghost use Rattle.difference.specs.Changes.{paired, position_change};
 ghost use Rattle.change_rows.specs.Room.{paired_masks};
 ghost use Rattle.change_rows.specs.Walk.{Added, Walked, WalkedIf};
-ghost use Rattle.position_changes.specs.Here.{cell_at};
+ghost use Rattle.position_changes.specs.Here.{cell_at, told_cell};
 
 use cells::byte_at;
-use change_rows::{POSITION_DIFFERS, POSITION_ONLY_NEW, POSITION_ONLY_OLD, paired_masks, put};
-use position_tests::{longer, same_cell};
+use change_rows::{POSITION_DIFFERS, POSITION_ONLY_NEW, POSITION_ONLY_OLD, Row, paired_masks, put};
+use position_tests::{Cell, longer, same_cell};
 
-// A byte as a number.
-fn number(b: u8) -> u32
-    ensures { result ≡ b }
-{
-    b as u32
-}
-
-// Adds a position's row behind n others, with the older's value and mask and the newer's, and answers how many there are then.
+// Adds a position's row behind n others, with the older's cell and the newer's, and answers how many there are then.
 fn add(
     list: &mut [u32],
     n: usize,
@@ -28,47 +21,54 @@ fn add(
     kind: u32,
     id: u32,
     at: u32,
-    ov: u8,
-    om: u8,
-    nv: u8,
-    nm: u8,
+    older: Cell,
+    newer: Cell,
 ) -> usize
     requires { n < 4294967296 }
-    ensures { Added writing list.old n (kind ∷ id ∷ at ∷ ov ∷ om ∷ nv ∷ nm ∷ 0 ∷ []) result list.new }
+    ensures { Added writing list.old n (kind ∷ id ∷ at ∷ older.value ∷ older.mask ∷ newer.value ∷ newer.mask ∷ 0 ∷ []) result list.new }
 {
-    put(
-        list,
-        n,
-        writing,
+    let row = Row {
         kind,
         id,
-        at,
-        number(ov),
-        number(om),
-        number(nv),
-        number(nm),
-    )
+        first: at,
+        second: u32::from(older.value),
+        third: u32::from(older.mask),
+        fourth: u32::from(newer.value),
+        fifth: u32::from(newer.mask),
+    };
+    put(list, n, writing, row)
 }
 
-// A position that both sides have: the older's value and mask, and the newer's.
+// A position that both sides have.
 fn both(
     list: &mut [u32],
     n: usize,
     writing: bool,
     id: u32,
     at: u32,
-    ov: u8,
-    om: u8,
-    nv: u8,
-    nm: u8,
+    older: Cell,
+    newer: Cell,
 ) -> usize
     requires { n < 4294967296 }
-    ensures { Walked writing list.old n (position_change id at (some (record { value = ov; mask = om })) (some (record { value = nv; mask = nm }))) 1 result list.new }
+    ensures { Walked writing list.old n (position_change id at (some (record { value = older.value; mask = older.mask })) (some (record { value = newer.value; mask = newer.mask }))) 1 result list.new }
 {
-    if same_cell(ov, om, nv, nm) {
+    if same_cell(older, newer) {
         return n;
     }
-    add(list, n, writing, POSITION_DIFFERS, id, at, ov, om, nv, nm)
+    add(list, n, writing, POSITION_DIFFERS, id, at, older, newer)
+}
+
+// Position i of an image, if it is there.
+fn cell_at(values: &[u8], masks: &[u8], i: usize) -> Option<Cell>
+    ensures { told_cell result ≡ cell_at values.now masks.now i }
+{
+    if values.len() <= i {
+        return None;
+    }
+    Some(Cell {
+        value: values[i],
+        mask: byte_at(masks, i),
+    })
 }
 
 // Position i: the older's values and masks are v and m, the newer's w and k.
@@ -87,20 +87,13 @@ fn position(
     ensures { Walked writing list.old n (position_change id i (cell_at v.now m.now i) (cell_at w.now k.now i)) 1 result list.new }
 {
     let at = i as u32;
-    let ov = byte_at(v, i);
-    let om = byte_at(m, i);
-    let nv = byte_at(w, i);
-    let nm = byte_at(k, i);
-    if i < v.len() {
-        if i < w.len() {
-            return both(list, n, writing, id, at, ov, om, nv, nm);
-        }
-        return add(list, n, writing, POSITION_ONLY_OLD, id, at, ov, om, 0, 0);
+    let none = Cell::default();
+    match (cell_at(v, m, i), cell_at(w, k, i)) {
+        (Some(older), Some(newer)) => both(list, n, writing, id, at, older, newer),
+        (Some(older), None) => add(list, n, writing, POSITION_ONLY_OLD, id, at, older, none),
+        (None, Some(newer)) => add(list, n, writing, POSITION_ONLY_NEW, id, at, none, newer),
+        (None, None) => n,
     }
-    if i < w.len() {
-        return add(list, n, writing, POSITION_ONLY_NEW, id, at, 0, 0, nv, nm);
-    }
-    n
 }
 
 // All positions: the older's values and masks are v and m, the newer's w and k.
@@ -119,10 +112,8 @@ fn walk(
 {
     let end = longer(v, w);
     let mut count = n;
-    let mut i = 0;
-    while i < end {
+    for i in 0..end {
         count = position(v, m, w, k, i, id, list, count, writing);
-        i += 1;
     }
     count
 }

@@ -1,35 +1,18 @@
 -- What the proofs of the search for a home cite: its invariant, and a law for each return.
 -- Assumes nothing.
-use Prim.Native.Nat.{ℕ, zero, suc, ◌+◌, ◌-◌, ◌≤◌, ◌<◌}
-use mathlib.Core.Path.{◌≡◌, refl, ap, sym, ◌∙◌}
+use Prim.Native.Nat.{ℕ, suc, ◌+◌, ◌-◌, ◌≤◌, ◌<◌}
+use mathlib.Core.Path.{◌≡◌, ap, sym, ◌∙◌}
 use mathlib.Core.Bool.{Bool, true, false}
 use mathlib.Core.List.{List}
 use native.Mathlib.Numerals.{add-one}
 use native.Mathlib.Omega.{arith}
 use lib.Dec.{eqb}
 use borrow.Author.Rules.{rules}
-use borrow.Author.Tests.{eq-eqb, ne_eqb, eqb-true, eqb-false, lt-ltb, le-ltb}
+use borrow.Author.Tests.{lt-ltb, le-ltb}
 use Rattle.format.specs.Lists.{pick}
 use Rattle.homes.specs.declared.Home.{Home}
-use Rattle.homes.specs.Home.{home_at, no_home}
+use Rattle.homes.specs.Home.{home_at}
 use Rattle.position_home.specs.Homed.{home_for, home_from}
-
--- `is_id`
-pub id-none : (h : Home) (id : ℕ) → h.id ≡ 0 → false ≡ eqb h.id (suc id)
-id-none h id e = sym (ne_eqb h.id (suc id) (λ f. let z : ⊥ = omega arith in z))
-
-pub id-some : (h : Home) (id : ℕ) → (h.id ≡ 0 → ⊥) → eqb (h.id - 1) id ≡ eqb h.id (suc id)
-id-some h id n = go h.id n
-  where
-    go : (k : ℕ) → (k ≡ 0 → ⊥) → eqb (k - 1) id ≡ eqb k (suc id)
-    go zero f = absurd (f refl)
-    go (suc k) f = let z : suc k - 1 ≡ k = omega arith in rw z (at (eqb k id) refl)
-      where
-        at : (b : Bool) → eqb k id ≡ b → b ≡ eqb (suc k) (suc id)
-        at true e = sym (eq-eqb (suc k) (suc id) (omega (arith, eqb-true k id e)))
-        at false e = sym (ne_eqb (suc k) (suc id) (λ d. eqb-false k id e (omega arith)))
-
-pub ruleset identifying = (rules, id-none, id-some)
 
 -- `home_with`: none of the areas before the i-th has the id
 pub record Homing (areas : List ℕ) (n id i : ℕ) : Type 0 where

@@ -1,6 +1,6 @@
 -- What the home for a position says: 20, or whose image the position lies in.
 -- Assumes nothing.
-use Prim.Native.Nat.{ℕ, zero, suc, ◌+◌, ◌-◌, ◌≤◌, ◌<◌}
+use Prim.Native.Nat.{ℕ, zero, suc, ◌+◌, ◌≤◌, ◌<◌}
 use mathlib.Core.Path.{◌≡◌, refl, ap, sym, subst, ◌∙◌}
 use mathlib.Core.Bool.{Bool, true, false, false≢true}
 use mathlib.Core.List.{List}
@@ -8,19 +8,19 @@ use mathlib.Core.Option.{Option, none, some}
 use native.Mathlib.Numerals.{add-one}
 use native.Mathlib.Omega.{arith}
 use lib.Dec.{eqb, leb, ltb}
-use borrow.Author.Tests.{eq-eqb, eqb-true, eqb-false, leb-true, leb-false, lt-ltb, le-ltb, ltb-true, ltb-false}
+use borrow.Author.Tests.{eq-eqb, eqb-true, eqb-false, leb-true, leb-false, ltb-true}
 use Rattle.format.specs.Lists.{pick}
 use Rattle.format.specs.Outcome.{refused}
 use Rattle.format.specs.Placing.{extent}
-use Rattle.format.specs.Tables.{Area, offset, rank}
-use Rattle.laws.specs.Rows.{area_at, areas_in}
+use Rattle.format.specs.Tables.{offset, rank}
+use Rattle.laws.specs.Rows.{areas_in}
 use Rattle.laws.proofs.Areas.{rank-past}
 use Rattle.homes.specs.declared.Home.{Home}
 use Rattle.homes.specs.Home.{home_at, home_by_of, no_home}
 use Rattle.homes.proofs.Use.{by_rank}
 use Rattle.last_writer.specs.LastWriter.{Span, position_in, span_from}
 use Rattle.last_writer.proofs.Spans.{a-span-is-an-areas, an-areas-span, span_of}
-use Rattle.position_home.specs.Homed.{home_for, home_from, within_home, Homed, HomeIs, HomeForIs}
+use Rattle.position_home.specs.Homed.{home_for, home_from, HomeIs, HomeForIs}
 
 -- none of the areas before the i-th has the id
 record Before (areas : List ℕ) (n id i : ℕ) : Type 0 where

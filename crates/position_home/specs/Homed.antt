@@ -1,7 +1,7 @@
 -- The home of the kept area with an id, if a position lies in its image.
 -- Assumes nothing.
 use Rattle.std.specs.Prelude.{ℕ, zero, suc, ◌<◌, ◌≡◌, List, eqb, ltb}
-use Rattle.std.proofs.Math.Option.{Option, none, some}
+use Rattle.std.proofs.Math.Option.{none, some}
 use Rattle.format.specs.Lists.{pick}
 use Rattle.format.specs.Outcome.{refused}
 use Rattle.format.specs.Placing.{extent}

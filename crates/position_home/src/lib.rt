@@ -10,23 +10,18 @@ use homes::{Home, home_at};
 fn is_id(h: Home, id: u32) -> bool
     ensures { result ≡ eqb h.id (suc id) }
 {
-    if h.id == 0 {
-        return false;
-    }
-    h.id - 1 == id
+    h.id != 0 && h.id - 1 == id
 }
 
 // The one among n areas; a home without an id where there is none.
 fn home_with(areas: &[u32], n: usize, id: u32) -> Home
     ensures { result ≡ home_from areas.now n id 0 n }
 {
-    let mut i: usize = 0;
-    while i < n {
+    for i in 0..n {
         let h = home_at(areas, n, i);
         if is_id(h, id) {
             return h;
         }
-        i += 1;
     }
     Home {
         area: 0,

@@ -3,4 +3,4 @@
 
 mod tests;
 
-pub use tests::{longer, same_cell};
+pub use tests::{Cell, longer, same_cell};

@@ -4,26 +4,23 @@ ghost use Rattle.std.proofs.Math.Option.{some};
 ghost use Rattle.format.specs.Lists.{pick};
 ghost use Rattle.difference.specs.Changes.{same_cell};
 
-// Whether the older's value and mask are those of the newer.
-pub fn same_cell(ov: u8, om: u8, nv: u8, nm: u8) -> bool
-    ensures { result ≡ same_cell (some (record { value = ov; mask = om })) (some (record { value = nv; mask = nm })) }
-{
-    if ov == nv {
-        return om == nm;
-    }
-    false
+// A position of an image: its value and its mask.
+#[derive(Clone, Copy, Default, PartialEq, Eq)]
+pub struct Cell {
+    pub value: u8,
+    pub mask: u8,
 }
 
-// The larger of two.
-fn larger(a: usize, b: usize) -> usize
-    ensures { result ≡ pick (leb a b) b a }
+// Whether the older's value and mask are those of the newer.
+pub fn same_cell(older: Cell, newer: Cell) -> bool
+    ensures { result ≡ same_cell (some (record { value = older.value; mask = older.mask })) (some (record { value = newer.value; mask = newer.mask })) }
 {
-    if a <= b { b } else { a }
+    older == newer
 }
 
 // The length of the longer of two images.
 pub fn longer(v: &[u8], w: &[u8]) -> usize
     ensures { result ≡ pick (leb (length v.now) (length w.now)) (length w.now) (length v.now) }
 {
-    larger(v.len(), w.len())
+    v.len().max(w.len())
 }

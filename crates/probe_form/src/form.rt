@@ -8,23 +8,20 @@ use header::{Form, Width};
 pub fn width_from(width: u8) -> Width
     ensures { result ≡ width_of width }
 {
-    if width == 2 {
-        return Width::Two;
+    match width {
+        2 => Width::Two,
+        3 => Width::Three,
+        _ => Width::Four,
     }
-    if width == 3 {
-        return Width::Three;
-    }
-    Width::Four
 }
 
 // A form out of its numbers.
 pub fn form_from(radix: u8, big: bool, width: u8) -> Form
     ensures { result ≡ form_from radix big width }
 {
-    let w = width_from(width);
     Form {
-        radix: radix,
-        big: big,
-        width: w,
+        radix,
+        big,
+        width: width_from(width),
     }
 }

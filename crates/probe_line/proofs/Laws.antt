@@ -1,7 +1,8 @@
 -- One law for each return: a row tells what the definition answers.
 -- Assumes nothing.
 use Prim.Native.Nat.{ℕ, suc}
-use mathlib.Core.Path.{◌≡◌, subst, ap, ◌∙◌}
+use mir.Val.{bool_byte}
+use mathlib.Core.Path.{◌≡◌, refl, subst, ap, ◌∙◌}
 use mathlib.Core.Bool.{Bool, true, false}
 use mathlib.Core.List.{List}
 use mathlib.Core.Option.{Option}
@@ -9,14 +10,16 @@ use borrow.Author.Rules.{rules}
 use Rattle.format.specs.Got.{Got}
 use Rattle.format.specs.Number.{joined}
 use Rattle.format.specs.Header as the
-use Rattle.format.specs.Entries.{Entry, area_line, symbol_line, entry_line}
+use Rattle.format.specs.Entries.{area_line, symbol_line, entry_line}
 use Rattle.format.specs.Pairs as pairs
-use Rattle.numbers.specs.Told.{told}
+use Rattle.std.specs.Prelude.{Some, None, Result, Ok, Err}
+use Rattle.std.specs.Prelude as std
+use Rattle.numbers.specs.Told.{told, code}
 use Rattle.header.specs.Told.{more_of, form_of, told_head}
 use Rattle.text_lines.specs.Lines.{LineIs}
 use Rattle.text_lines.specs.declared.LineAt.{LineAt}
-use Rattle.numbers.specs.declared.Num.{Num}
-use Rattle.numbers.specs.declared.Num.TheVariants.{Is, No}
+use Rattle.numbers.specs.declared.Halt.{Halt}
+use Rattle.numbers.specs.declared.Read.{Read}
 use Rattle.header.specs.declared.Width.{Width}
 use Rattle.header.specs.declared.Width.TheVariants.{Two, Three, Four}
 use Rattle.header.specs.declared.Form.{Form}
@@ -25,46 +28,34 @@ use Rattle.header.specs.declared.Head.TheVariants.{Found, Missing}
 use Rattle.fields.specs.Told.{went}
 use Rattle.entry_line.specs.Told.{addr_of, told_entry, entry_of}
 use Rattle.pair_line.specs.Pairs.{Contents, Relocations, told_content, told_relocation}
-use Rattle.fields.specs.declared.Place.{Place}
-use Rattle.fields.specs.declared.Place.TheVariants.{At, Not}
-use Rattle.entry_line.specs.declared.Addr.{Addr}
-use Rattle.entry_line.specs.declared.Addr.TheVariants.{Given, Absent}
-use Rattle.entry_line.specs.declared.Entry as code
+use Rattle.entry_line.specs.declared.Entry as entries
 use Rattle.entry_line.specs.declared.Entry.TheVariants.{Area, Symbol, Ignored}
-use Rattle.entry_line.specs.declared.EntryLine as entries
-use Rattle.entry_line.specs.declared.EntryLine.TheVariants as of
-use Rattle.pair_line.specs.declared.ContentLine.{ContentLine}
-use Rattle.pair_line.specs.declared.ContentLine.TheVariants.{Content, NoContent}
-use Rattle.pair_line.specs.declared.RelocationLine.{RelocationLine}
-use Rattle.pair_line.specs.declared.RelocationLine.TheVariants.{Relocation, NoRelocation}
+use Rattle.pair_line.specs.declared.content.Content.{Content}
+use Rattle.pair_line.specs.declared.relocations.Relocation.{Relocation}
 use Rattle.probe_form.specs.Forms.{width_of, form_from}
 use Rattle.probe_line.specs.Rows.{row_of, value_row, halt_row, flag, number_row, place_row, head_row, given_addr, addr_value, taken_row, entry_row, sized_row, ContentRow, RelocationRow, LineRow}
 use Rattle.probe_line.specs.declared.Row.{Row}
 
 -- small numbers out
-module _ {b : Bool} where
-  pub flag-1 : b ≡ true → 1 ≡ flag b
-  unfolding flag
-  flag-1 e = rw e
+pub flag-is : (b : Bool) → bool_byte b ≡ flag b
+unfolding flag
+flag-is true = refl
+flag-is false = refl
 
-  pub flag-0 : b ≡ false → 0 ≡ flag b
-  unfolding flag
-  flag-0 e = rw e
-
-module _ {a : Addr} where
-  pub given-1 : {v : ℕ} → a ≡ Given v → 1 ≡ given_addr (addr_of a)
+module _ {a : std.Option ℕ} where
+  pub given-1 : {v : ℕ} → a ≡ Some v → 1 ≡ given_addr (addr_of a)
   unfolding given_addr
   given-1 g = rw g
 
-  pub given-0 : a ≡ Absent → 0 ≡ given_addr (addr_of a)
+  pub given-0 : a ≡ None → 0 ≡ given_addr (addr_of a)
   unfolding given_addr
   given-0 g = rw g
 
-  pub value-1 : {v : ℕ} → a ≡ Given v → v ≡ addr_value (addr_of a)
+  pub value-1 : {v : ℕ} → a ≡ Some v → v ≡ addr_value (addr_of a)
   unfolding addr_value
   value-1 g = rw g
 
-  pub value-0 : a ≡ Absent → 0 ≡ addr_value (addr_of a)
+  pub value-0 : a ≡ None → 0 ≡ addr_value (addr_of a)
   unfolding addr_value
   value-0 g = rw g
 
@@ -78,25 +69,25 @@ module _ {w : Width} where
   pub length-4 : w ≡ Four → 4 ≡ suc (more_of w)
   length-4 g = rw g
 
-pub ruleset small = (rules, flag-1, flag-0, given-1, given-0, value-1, value-0, length-2, length-3, length-4)
+pub ruleset small = (rules, given-1, given-0, value-1, value-0, length-2, length-3, length-4)
 
 -- the rows of an answer, by its case
 module _ {r : Row} where
-  module _ {n : Num} where
-    pub number_is : {v q : ℕ} → n ≡ Is v q → r ≡ value_row q v 0 0 → r ≡ number_row (told n)
+  module _ {n : Result (Read ℕ) Halt} where
+    pub number_is : {v : Read ℕ} → n ≡ Ok v → r ≡ value_row v.next v.value 0 0 → r ≡ number_row (told n)
     unfolding number_row
     number_is g e = rw g e
 
-    pub number-no : {k p : ℕ} → n ≡ No k p → r ≡ halt_row k p → r ≡ number_row (told n)
+    pub number-no : {k : Halt} → n ≡ Err k → r ≡ halt_row (code k.reason) k.at → r ≡ number_row (told n)
     unfolding number_row
     number-no g e = rw g e
 
-  module _ {n : Place} where
-    pub place_is : {q : ℕ} → n ≡ At q → r ≡ value_row q 0 0 0 → r ≡ place_row (went n)
+  module _ {n : Result ℕ Halt} where
+    pub place_is : {q : ℕ} → n ≡ Ok q → r ≡ value_row q 0 0 0 → r ≡ place_row (went n)
     unfolding place_row
     place_is g e = rw g e
 
-    pub place-no : {k p : ℕ} → n ≡ Not k p → r ≡ halt_row k p → r ≡ place_row (went n)
+    pub place-no : {k : Halt} → n ≡ Err k → r ≡ halt_row (code k.reason) k.at → r ≡ place_row (went n)
     unfolding place_row
     place-no g e = rw g e
 
@@ -109,12 +100,12 @@ module _ {r : Row} where
     unfolding head_row
     head-no g e = rw g e
 
-  module _ {x : code.Entry} (u : ℕ) where
+  module _ {x : entries.Entry} (u : ℕ) where
     pub taken-1 : x ≡ Ignored → r ≡ row_of u 1 0 0 0 0 0 0 → r ≡ taken_row (entry_of x) u
     unfolding taken_row
     taken-1 g e = rw g e
 
-    pub taken-2 : {a n z f : ℕ} {y : Addr} → x ≡ Area a n z f y → {b c : ℕ} → b ≡ given_addr (addr_of y) → c ≡ addr_value (addr_of y) → r ≡ row_of u 2 a n z f b c → r ≡ taken_row (entry_of x) u
+    pub taken-2 : {a n z f : ℕ} {y : std.Option ℕ} → x ≡ Area a n z f y → {b c : ℕ} → b ≡ given_addr (addr_of y) → c ≡ addr_value (addr_of y) → r ≡ row_of u 2 a n z f b c → r ≡ taken_row (entry_of x) u
     unfolding taken_row
     taken-2 g i j e = rw (g, ← i, ← j) e
 
@@ -122,30 +113,30 @@ module _ {r : Row} where
     unfolding taken_row
     taken-3 g i e = rw (g, ← i) e
 
-  module _ {l : entries.EntryLine} where
-    pub entry-is : {x : code.Entry} {u : ℕ} → l ≡ of.Is x u → r ≡ taken_row (entry_of x) u → r ≡ entry_row (told_entry l)
+  module _ {l : Result (Read entries.Entry) Halt} where
+    pub entry-is : {x : Read entries.Entry} → l ≡ Ok x → r ≡ taken_row (entry_of x.value) x.next → r ≡ entry_row (told_entry l)
     unfolding entry_row
     entry-is g e = rw g e
 
-    pub entry-no : {k p : ℕ} → l ≡ of.No k p → r ≡ halt_row k p → r ≡ entry_row (told_entry l)
+    pub entry-no : {k : Halt} → l ≡ Err k → r ≡ halt_row (code k.reason) k.at → r ≡ entry_row (told_entry l)
     unfolding entry_row
     entry-no g e = rw g e
 
-  module _ {l : ContentLine} where
-    pub content-is : {a n u : ℕ} → l ≡ Content a n u → r ≡ value_row u a n 0 → r ≡ sized_row (told_content l)
+  module _ {l : Result Content Halt} where
+    pub content-is : {c : Content} → l ≡ Ok c → r ≡ value_row c.used c.address c.count 0 → r ≡ sized_row (told_content l)
     unfolding sized_row
     content-is g e = rw g e
 
-    pub content-no : {k p : ℕ} → l ≡ NoContent k p → r ≡ halt_row k p → r ≡ sized_row (told_content l)
+    pub content-no : {k : Halt} → l ≡ Err k → r ≡ halt_row (code k.reason) k.at → r ≡ sized_row (told_content l)
     unfolding sized_row
     content-no g e = rw g e
 
-  module _ {l : RelocationLine} where
-    pub relocation-is : {a n u : ℕ} → l ≡ Relocation a n u → r ≡ value_row u a n 0 → r ≡ sized_row (told_relocation l)
+  module _ {l : Result Relocation Halt} where
+    pub relocation-is : {c : Relocation} → l ≡ Ok c → r ≡ value_row c.used c.area c.count 0 → r ≡ sized_row (told_relocation l)
     unfolding sized_row
     relocation-is g e = rw g e
 
-    pub relocation-no : {k p : ℕ} → l ≡ NoRelocation k p → r ≡ halt_row k p → r ≡ sized_row (told_relocation l)
+    pub relocation-no : {k : Halt} → l ≡ Err k → r ≡ halt_row (code k.reason) k.at → r ≡ sized_row (told_relocation l)
     unfolding sized_row
     relocation-no g e = rw g e
 
@@ -156,41 +147,41 @@ pub ruleset rowing = (rules, number_is, number-no, place_is, place-no, head-is, 
 
 -- the answer is the definition's
 module _ {r : Row} where
-  pub number-as : (m : Got ℕ) (n : Num) → told n ≡ m → r ≡ number_row (told n) → r ≡ number_row m
+  pub number-as : (m : Got ℕ) (n : Result (Read ℕ) Halt) → told n ≡ m → r ≡ number_row (told n) → r ≡ number_row m
   number-as m n e g = rw (← e) g
 
-  pub address_as : (radix : ℕ) (big : Bool) (k : ℕ) (s : List ℕ) (at : ℕ) (n : Num) {w : Width} → told n ≡ joined radix big (more_of w) s at → w ≡ width_of k → r ≡ number_row (told n) → r ≡ number_row (joined radix big (more_of (width_of k)) s at)
+  pub address_as : (radix : ℕ) (big : Bool) (k : ℕ) (s : List ℕ) (at : ℕ) (n : Result (Read ℕ) Halt) {w : Width} → told n ≡ joined radix big (more_of w) s at → w ≡ width_of k → r ≡ number_row (told n) → r ≡ number_row (joined radix big (more_of (width_of k)) s at)
   address_as radix big k s at n e f g = rw (← f, ← e) g
 
   pub head_as : (m : Option the.Head) (h : Head) → told_head h ≡ m → r ≡ head_row (told_head h) → r ≡ head_row m
   head_as m h e g = rw (← e) g
 
-  pub place-as : (m : Got Unit) (n : Place) → went n ≡ m → r ≡ place_row (went n) → r ≡ place_row m
+  pub place-as : (m : Got Unit) (n : Result ℕ Halt) → went n ≡ m → r ≡ place_row (went n) → r ≡ place_row m
   place-as m n e g = rw (← e) g
 
   module _ (radix : ℕ) (big : Bool) (k : ℕ) (s : List ℕ) {f : Form} (e : f ≡ form_from radix big k) where
-    pub area-as : (l : entries.EntryLine) → r ≡ entry_row (told_entry l) → told_entry l ≡ area_line (form_of f) s 0 → r ≡ entry_row (area_line (form_of (form_from radix big k)) s 0)
+    pub area-as : (l : Result (Read entries.Entry) Halt) → r ≡ entry_row (told_entry l) → told_entry l ≡ area_line (form_of f) s 0 → r ≡ entry_row (area_line (form_of (form_from radix big k)) s 0)
     area-as l g h = subst (λ (x : Form). r ≡ entry_row (area_line (form_of x) s 0)) e (g ∙ ap entry_row h)
 
-    pub symbol-as : (l : entries.EntryLine) → r ≡ entry_row (told_entry l) → told_entry l ≡ symbol_line (form_of f) s 0 → r ≡ entry_row (symbol_line (form_of (form_from radix big k)) s 0)
+    pub symbol-as : (l : Result (Read entries.Entry) Halt) → r ≡ entry_row (told_entry l) → told_entry l ≡ symbol_line (form_of f) s 0 → r ≡ entry_row (symbol_line (form_of (form_from radix big k)) s 0)
     symbol-as l g h = subst (λ (x : Form). r ≡ entry_row (symbol_line (form_of x) s 0)) e (g ∙ ap entry_row h)
 
-    pub entry-as : (l : entries.EntryLine) → r ≡ entry_row (told_entry l) → told_entry l ≡ entry_line (form_of f) s 0 → r ≡ entry_row (entry_line (form_of (form_from radix big k)) s 0)
+    pub entry-as : (l : Result (Read entries.Entry) Halt) → r ≡ entry_row (told_entry l) → told_entry l ≡ entry_line (form_of f) s 0 → r ≡ entry_row (entry_line (form_of (form_from radix big k)) s 0)
     entry-as l g h = subst (λ (x : Form). r ≡ entry_row (entry_line (form_of x) s 0)) e (g ∙ ap entry_row h)
 
-    pub content-as : {l : ContentLine} → r ≡ sized_row (told_content l) → {room left : List ℕ} → Contents (pairs.content_line (form_of f) s 0) (pairs.content_line (form_of f) s 0) room l left
+    pub content-as : {l : Result Content Halt} → r ≡ sized_row (told_content l) → {room left : List ℕ} → Contents (pairs.content_line (form_of f) s 0) (pairs.content_line (form_of f) s 0) room l left
         → ContentRow (pairs.content_line (form_of (form_from radix big k)) s 0) (pairs.content_line (form_of (form_from radix big k)) s 0) room r left
     content-as g {room} {left} h =
         subst (λ (x : Form). ContentRow (pairs.content_line (form_of x) s 0) (pairs.content_line (form_of x) s 0) room r left) e
         (record { answered = g ∙ ap sized_row h.answered; stored = h.stored })
 
-    pub whole-as : {l : ContentLine} → r ≡ sized_row (told_content l) → {room left : List ℕ} → Contents (pairs.whole_content (form_of f) s) (pairs.content_line (form_of f) s 0) room l left
+    pub whole-as : {l : Result Content Halt} → r ≡ sized_row (told_content l) → {room left : List ℕ} → Contents (pairs.whole_content (form_of f) s) (pairs.content_line (form_of f) s 0) room l left
         → ContentRow (pairs.whole_content (form_of (form_from radix big k)) s) (pairs.content_line (form_of (form_from radix big k)) s 0) room r left
     whole-as g {room} {left} h =
         subst (λ (x : Form). ContentRow (pairs.whole_content (form_of x) s) (pairs.content_line (form_of x) s 0) room r left) e
         (record { answered = g ∙ ap sized_row h.answered; stored = h.stored })
 
-    pub relocation-as : {l : RelocationLine} → r ≡ sized_row (told_relocation l) → {ms es xs ms' es' xs' : List ℕ} → Relocations (pairs.relocation_line (form_of f) s 0) l ms es xs ms' es' xs'
+    pub relocation-as : {l : Result Relocation Halt} → r ≡ sized_row (told_relocation l) → {ms es xs ms' es' xs' : List ℕ} → Relocations (pairs.relocation_line (form_of f) s 0) l ms es xs ms' es' xs'
         → RelocationRow (pairs.relocation_line (form_of (form_from radix big k)) s 0) r ms es xs ms' es' xs'
     relocation-as g {ms} {es} {xs} {ms'} {es'} {xs'} h =
         subst (λ (x : Form). RelocationRow (pairs.relocation_line (form_of x) s 0) r ms es xs ms' es' xs') e

@@ -1,6 +1,6 @@
 // Rows of numbers for the readers' answers.
 ghost use Rattle.std.specs.Prelude.{◌≡◌, suc};
-ghost use Rattle.numbers.specs.Told.{told};
+ghost use Rattle.numbers.specs.Told.{told, code};
 ghost use Rattle.header.specs.Told.{more_of, told_head};
 ghost use Rattle.fields.specs.Told.{went};
 ghost use Rattle.entry_line.specs.Told.{addr_of, told_entry, entry_of};
@@ -8,19 +8,18 @@ ghost use Rattle.pair_line.specs.Pairs.{told_content, told_relocation};
 ghost use Rattle.probe_line.specs.Rows.{halt_row, value_row, row_of, flag, number_row, place_row, head_row, given_addr, addr_value, taken_row, entry_row, sized_row, LineRow};
 
 use crate::Row;
-use entry_line::{Addr, Entry, EntryLine};
-use fields::Place;
+use entry_line::Entry;
 use header::{Head, Width};
-use numbers::Num;
-use pair_line::{ContentLine, RelocationLine};
+use numbers::{Halt, Parsed, Reason};
+use pair_line::{Content, Relocation};
 
 // A halt.
-fn halt(reason: u8, at: usize) -> Row
-    ensures { result ≡ halt_row reason at }
+fn halt(halt: Halt) -> Row
+    ensures { result ≡ halt_row (code halt.reason) halt.at }
 {
     Row {
-        reason: reason as u64,
-        place: at as u64,
+        reason: halt.reason as u64,
+        place: halt.at as u64,
         kind: 0,
         name: 0,
         length: 0,
@@ -41,9 +40,9 @@ fn values(place: usize, first: u64, second: u64, third: u64) -> Row
         kind: 0,
         name: 0,
         length: 0,
-        first: first,
-        second: second,
-        third: third,
+        first,
+        second,
+        third,
         fourth: 0,
     }
 }
@@ -52,26 +51,26 @@ fn values(place: usize, first: u64, second: u64, third: u64) -> Row
 fn one_if(b: bool) -> u64
     ensures { result ≡ flag b }
 {
-    if b { 1 } else { 0 }
+    u64::from(b)
 }
 
 // A number.
-pub(crate) fn number_row(n: Num) -> Row
+pub(crate) fn number_row(n: Parsed<u32>) -> Row
     ensures { result ≡ number_row (told n) }
 {
     match n {
-        Num::Is { value, next } => values(next, value as u64, 0, 0),
-        Num::No { reason, at } => halt(reason, at),
+        Ok(read) => values(read.next, u64::from(read.value), 0, 0),
+        Err(stop) => halt(stop),
     }
 }
 
 // A place.
-pub(crate) fn place_row(n: Place) -> Row
+pub(crate) fn place_row(n: Result<usize, Halt>) -> Row
     ensures { result ≡ place_row (went n) }
 {
     match n {
-        Place::At { next } => values(next, 0, 0, 0),
-        Place::Not { reason, at } => halt(reason, at),
+        Ok(next) => values(next, 0, 0, 0),
+        Err(stop) => halt(stop),
     }
 }
 
@@ -95,12 +94,15 @@ pub(crate) fn head_row(h: Head) -> Row
             let width = form.width;
             values(
                 next,
-                form.radix as u64,
+                u64::from(form.radix),
                 one_if(form.big),
                 width_number(width),
             )
         }
-        Head::Missing => halt(4, 0),
+        Head::Missing => halt(Halt {
+            reason: Reason::Other,
+            at: 0,
+        }),
     }
 }
 
@@ -113,22 +115,22 @@ pub(crate) fn line_row(t: &[u8], at: usize) -> Row
 }
 
 // Whether an addr is given.
-fn given(a: Addr) -> u64
+fn given(a: Option<u32>) -> u64
     ensures { result ≡ given_addr (addr_of a) }
 {
     match a {
-        Addr::Given { addr: _ } => 1,
-        Addr::Absent => 0,
+        Some(_) => 1,
+        None => 0,
     }
 }
 
 // The addr, or 0.
-fn addr_value(a: Addr) -> u64
+fn addr_value(a: Option<u32>) -> u64
     ensures { result ≡ addr_value (addr_of a) }
 {
     match a {
-        Addr::Given { addr } => addr as u64,
-        Addr::Absent => 0,
+        Some(addr) => u64::from(addr),
+        None => 0,
     }
 }
 
@@ -147,7 +149,7 @@ fn taken(e: Entry, used: usize) -> Row
         } => {
             let g = given(addr);
             let v = addr_value(addr);
-            entry_values(used, 2, name, len, size as u64, flags as u64, g, v)
+            entry_values(used, 2, name, len, u64::from(size), u64::from(flags), g, v)
         }
         Entry::Symbol {
             name,
@@ -156,7 +158,7 @@ fn taken(e: Entry, used: usize) -> Row
             value,
         } => {
             let f = one_if(is_ref);
-            entry_values(used, 3, name, len, f, value as u64, 0, 0)
+            entry_values(used, 3, name, len, f, u64::from(value), 0, 0)
         }
     }
 }
@@ -188,40 +190,31 @@ fn entry_values(
 }
 
 // A line of group one, or its halt.
-pub(crate) fn entry_row(e: EntryLine) -> Row
+pub(crate) fn entry_row(e: Parsed<Entry>) -> Row
     ensures { result ≡ entry_row (told_entry e) }
 {
     match e {
-        EntryLine::Is { entry, used } => taken(entry, used),
-        EntryLine::No { reason, at } => halt(reason, at),
+        Ok(read) => taken(read.value, read.next),
+        Err(stop) => halt(stop),
     }
 }
 
 // A T line: address and count.
-pub(crate) fn content_row(c: ContentLine) -> Row
+pub(crate) fn content_row(c: Result<Content, Halt>) -> Row
     ensures { result ≡ sized_row (told_content c) }
 {
     match c {
-        ContentLine::Content {
-            address,
-            count,
-            used,
-        } => values(used, address as u64, count as u64, 0),
-        ContentLine::NoContent { reason, at } => halt(reason, at),
+        Ok(read) => values(read.used, u64::from(read.address), read.count as u64, 0),
+        Err(stop) => halt(stop),
     }
 }
 
 // An R line: the area's index and count.
-pub(crate) fn relocation_row(c: RelocationLine) -> Row
+pub(crate) fn relocation_row(c: Result<Relocation, Halt>) -> Row
     ensures { result ≡ sized_row (told_relocation c) }
 {
     match c {
-        RelocationLine::Relocation { area, count, used } => values(
-            used,
-            area as u64,
-            count as u64,
-            0,
-        ),
-        RelocationLine::NoRelocation { reason, at } => halt(reason, at),
+        Ok(read) => values(read.used, u64::from(read.area), read.count as u64, 0),
+        Err(stop) => halt(stop),
     }
 }

@@ -5,8 +5,6 @@ ghost use Rattle.mode.specs.Class.{class_named};
 ghost use Rattle.mode_step.specs.Step.{told_step};
 ghost use Rattle.probe_mode.specs.Probe.{Probed, step_answer};
 
-use mode_step::Step;
-
 // 1 and the number that a step made, or 0 and 0 where a part was too short.
 #[repr(C)]
 #[derive(Clone, Copy)]
@@ -16,12 +14,12 @@ pub struct StepAnswer {
 }
 
 // A step's answer in numbers.
-fn step_answer(step: Step) -> StepAnswer
+fn step_answer(step: Option<u32>) -> StepAnswer
     ensures { result ≡ step_answer (told_step step) }
 {
     match step {
-        Step::Number(number) => StepAnswer { done: 1, number },
-        Step::Short => StepAnswer { done: 0, number: 0 },
+        Some(number) => StepAnswer { done: 1, number },
+        None => StepAnswer { done: 0, number: 0 },
     }
 }
 

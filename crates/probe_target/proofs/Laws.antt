@@ -1,6 +1,6 @@
 -- The exported functions: a law for each return.
 -- Assumes nothing.
-use Prim.Native.Nat.{ℕ, min, ◌%◌, ◌*◌, ◌+◌, ◌-◌, ◌/◌, ◌<◌, ◌≤◌}
+use Prim.Native.Nat.{ℕ, ◌%◌, ◌*◌, ◌+◌, ◌-◌, ◌/◌, ◌<◌, ◌≤◌}
 use mathlib.Core.Path.{◌≡◌, refl, sym, ap, ◌∙◌}
 use mathlib.Core.Bool.{Bool}
 use mathlib.Core.List.{List}
@@ -12,8 +12,8 @@ use Rattle.format.specs.Outcome.{Outcome}
 use Rattle.laws.specs.Tab.{over}
 use Rattle.laws.proofs.Fill.{over-step}
 use Rattle.mode.specs.Class.{class_named, class_table}
-use Rattle.target_asked.specs.declared.Answer.{Answer}
-use Rattle.target_asked.specs.declared.Answer.TheVariants.{At, Refused}
+use Rattle.std.specs.Prelude.{Result, Ok, Err}
+use Rattle.target_asked.specs.declared.Refusal.{Refusal}
 use Rattle.target_asked.specs.Asked.{told}
 use Rattle.target.specs.Target.{target_by}
 use Rattle.target.proofs.AnswerLaws.{by-the-table}
@@ -21,21 +21,17 @@ use Rattle.probe_target.specs.declared.TargetAnswer.{TargetAnswer}
 use Rattle.probe_target.specs.Probe.{RowThere, Rows, row_target, rows_in, target_answer, value_of}
 
 -- a target
-pub target_at : {a : Answer} {t : ℕ} → a ≡ At t → record { refused = 0; place = 0; address = t } ≡ target_answer (told a)
+pub target_at : {a : Result ℕ Refusal} {t : ℕ} → a ≡ Ok t → record { refused = 0; place = 0; address = t } ≡ target_answer (told a)
 target_at e = rw e
 
-pub target-refused : {a : Answer} {n p : ℕ} → a ≡ Refused n p → record { refused = n; place = p; address = 0 } ≡ target_answer (told a)
+pub target-refused : {a : Result ℕ Refusal} {r : Refusal} → a ≡ Err r → record { refused = r.number; place = r.place; address = 0 } ≡ target_answer (told a)
 target-refused e = rw e
 
-pub answered : (a : Answer) {o : Outcome ℕ} {r : TargetAnswer} → r ≡ target_answer (told a) → told a ≡ o → r ≡ target_answer o
+pub answered : (a : Result ℕ Refusal) {o : Outcome ℕ} {r : TargetAnswer} → r ≡ target_answer (told a) → told a ≡ o → r ≡ target_answer o
 answered a e f = e ∙ ap target_answer f
 
 -- targets in rows
-pub rows_are : (modes numbers addresses bytes out : ℕ) {a b c n : ℕ} → a ≡ min modes numbers → b ≡ min addresses (bytes / 4) → c ≡ min a b → n ≡ min c out → n ≡ rows_in modes numbers addresses bytes out
-unfolding rows_in
-rows_are modes numbers addresses bytes out ea eb ec en = cc
-
-module _ (big : Bool) (modes numbers addresses bytes : List ℕ) (i : ℕ) {t : List ℕ} (a : Answer) (e : t ≡ class_table)
+module _ (big : Bool) (modes numbers addresses bytes : List ℕ) (i : ℕ) {t : List ℕ} (a : Result ℕ Refusal) (e : t ≡ class_table)
     (f : told a ≡ target_by (class_named (get_or t (get_or modes i 0 % 2048) 0)) big (get_or modes i 0) (get_or numbers i 0) (take (4 * i + 4 - 4 * i) (drop (4 * i) bytes)) (get_or addresses i 0)) where
   row_is : value_of (told a) ≡ row_target big modes numbers addresses bytes i
   unfolding row_target
@@ -43,11 +39,11 @@ module _ (big : Bool) (modes numbers addresses bytes : List ℕ) (i : ℕ) {t : 
       let four : 4 * i + 4 - 4 * i ≡ 4 = omega arith in
       ap value_of (rw four at (by-the-table big (get_or modes i 0) (get_or numbers i 0) (take (4 * i + 4 - 4 * i) (drop (4 * i) bytes)) (get_or addresses i 0) e f))
 
-  pub row_at : {v : ℕ} → a ≡ At v → v ≡ row_target big modes numbers addresses bytes i
+  pub row_at : {v : ℕ} → a ≡ Ok v → v ≡ row_target big modes numbers addresses bytes i
   row_at g = rw g at row_is
 
-  pub row-refused : {n p : ℕ} → a ≡ Refused n p → n ≡ row_target big modes numbers addresses bytes i
-  row-refused g = rw g at row_is
+  pub row-refused : {r : Refusal} {n : ℕ} → a ≡ Err r → n ≡ r.number → n ≡ row_target big modes numbers addresses bytes i
+  row-refused g en = en ∙ (rw g at row_is)
 
 pub put-past : (l : List ℕ) (i v : ℕ) → length l ≤ i → l ≡ set l i v
 put-past l i v h = sym (set_out l i v h)
@@ -86,4 +82,4 @@ module _ {big : Bool} {modes numbers addresses bytes old : List ℕ} {n : ℕ} {
 
 pub ruleset probes = (rules, target_at, target-refused, answered)
 
-pub ruleset rows = (rules, rows_are, row_at, row-refused, fills-none, row-there, fills-one-more, put-past, fills-all)
+pub ruleset rows = (rules, row_at, row-refused, fills-none, row-there, fills-one-more, put-past, fills-all)

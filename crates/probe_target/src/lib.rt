@@ -1,7 +1,7 @@
 // Targets for a program in Rust that holds them against the source's: one, a corrected one, one with a lent table of class numbers, and a row of them.
 #![tactic(auto)]
 
-ghost use Rattle.std.specs.Prelude.{◌≡◌, ◌%◌, min, get_or, set};
+ghost use Rattle.std.specs.Prelude.{◌≡◌, ◌%◌, get_or, set};
 ghost use Rattle.format.specs.Target.{target};
 ghost use Rattle.format.specs.Corrected.{corrected};
 ghost use Rattle.mode.specs.Class.{class_named};
@@ -9,7 +9,7 @@ ghost use Rattle.target.specs.Target.{target_by};
 ghost use Rattle.target_asked.specs.Asked.{told};
 ghost use Rattle.probe_target.specs.Probe.{RowThere, Rows, row_target, rows_in, target_answer};
 
-use target_asked::Answer;
+use target_asked::Refusal;
 
 // The address, or the number and the place of a refusal.
 #[repr(C)]
@@ -21,16 +21,16 @@ pub struct TargetAnswer {
 }
 
 // A target's answer in numbers.
-fn target_answer(answer: Answer) -> TargetAnswer
+fn target_answer(answer: Result<u64, Refusal>) -> TargetAnswer
     ensures { result ≡ target_answer (told answer) }
 {
     match answer {
-        Answer::At(address) => TargetAnswer {
+        Ok(address) => TargetAnswer {
             refused: 0,
             place: 0,
             address,
         },
-        Answer::Refused { number, place } => TargetAnswer {
+        Err(Refusal { number, place }) => TargetAnswer {
             refused: number,
             place,
             address: 0,
@@ -85,20 +85,11 @@ pub extern "C" fn probe_target_in(
 }
 
 // How many whole rows all the columns have: one number in each, and four bytes.
+#[tactic(auto, unfolding(crate::specs::Probe::rows_in))]
 fn rows(modes: usize, numbers: usize, addresses: usize, bytes: usize, out: usize) -> usize
     ensures { result ≡ rows_in modes numbers addresses bytes out }
 {
-    least(
-        least(least(modes, numbers), least(addresses, bytes / 4)),
-        out,
-    )
-}
-
-// The less of two.
-fn least(a: usize, b: usize) -> usize
-    ensures { result ≡ min a b }
-{
-    if a < b { a } else { b }
+    modes.min(numbers).min(addresses.min(bytes / 4)).min(out)
 }
 
 // The target of one row, or the number of its refusal.
@@ -118,8 +109,8 @@ fn row_target(
     let e = a + 4;
     let answer = target::target_in(table, modes[i], big, numbers[i], addresses[i], &bytes[a..e]);
     match answer {
-        Answer::At(address) => address,
-        Answer::Refused { number, place: _ } => number as u64,
+        Ok(address) => address,
+        Err(refusal) => u64::from(refusal.number),
     }
 }
 
@@ -152,11 +143,9 @@ pub extern "C" fn probe_targets(
         bytes.len(),
         out.len(),
     );
-    let mut i: usize = 0;
-    while i < n {
+    for i in 0..n {
         let value = row_target(&table, big, i, modes, numbers, addresses, bytes);
         put(out, i, value);
-        i += 1;
     }
     n
 }

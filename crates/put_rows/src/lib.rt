@@ -9,7 +9,6 @@ ghost use Rattle.entry_line.specs.Told.{addr_of};
 ghost use Rattle.put_rows.specs.Put.{short_of, area_put, symbol_put};
 
 use cells::put_u32;
-use entry_line::Addr;
 use rooms::{AREA_WIDTH, SYMBOL_WIDTH, TEXT_ROOM};
 
 // Three numbers from a place on.
@@ -45,22 +44,22 @@ fn flag_of(b: bool) -> u32
 }
 
 // 1 for an addr that is given.
-fn is_given(a: Addr) -> u32
+fn is_given(a: Option<u32>) -> u32
     ensures { result ≡ given (addr_of a) }
 {
     match a {
-        Addr::Given { addr: _ } => 1,
-        Addr::Absent => 0,
+        Some(_) => 1,
+        None => 0,
     }
 }
 
 // The addr, or 0 where none is given.
-fn or_zero(a: Addr) -> u32
+fn or_zero(a: Option<u32>) -> u32
     ensures { result ≡ or_zero (addr_of a) }
 {
     match a {
-        Addr::Given { addr } => addr,
-        Addr::Absent => 0,
+        Some(addr) => addr,
+        None => 0,
     }
 }
 
@@ -73,7 +72,7 @@ pub fn put_area(
     len: usize,
     size: u32,
     flags: u32,
-    addr: Addr,
+    addr: Option<u32>,
 )
     ensures { out.new ≡ area_put out.old row p name len size flags (addr_of addr) }
 {

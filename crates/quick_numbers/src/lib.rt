@@ -8,7 +8,7 @@ ghost use Rattle.numbers.specs.Told.{told};
 ghost use Rattle.quick_numbers.specs.Short.{Zero};
 
 use crate::short::{short_byte, spaced_byte};
-use numbers::Num;
+use numbers::{Parsed, Read};
 
 mod short;
 
@@ -29,42 +29,42 @@ fn lone_zero(t: &[u8], at: usize, radix: u8) -> bool
 }
 
 // The longest run of digits, as a number below 2^32. A 0 that stands alone is read at once.
-pub fn parse_number(t: &[u8], at: usize, radix: u8) -> Num
+pub fn parse_number(t: &[u8], at: usize, radix: u8) -> Parsed<u32>
     ensures { told result ≡ number radix t.now at }
 {
     if lone_zero(t, at, radix) {
-        return Num::Is {
+        return Ok(Read {
             value: 0,
             next: at + 1,
-        };
+        });
     }
     numbers::any_number(t, at, radix)
 }
 
 // A number below 256. Two digits are read at once.
-pub fn parse_byte(t: &[u8], at: usize, radix: u8) -> Num
+pub fn parse_byte(t: &[u8], at: usize, radix: u8) -> Parsed<u32>
     ensures { told result ≡ byte radix t.now at }
 {
     let v = short_byte(t, at, radix);
     if v < 256 {
-        return Num::Is {
+        return Ok(Read {
             value: v as u32,
             next: at + 2,
-        };
+        });
     }
     numbers::any_byte(t, at, radix)
 }
 
 // One or more blanks, and a byte. One space and two digits are read at once.
-pub fn next_byte(t: &[u8], at: usize, radix: u8) -> Num
+pub fn next_byte(t: &[u8], at: usize, radix: u8) -> Parsed<u32>
     ensures { told result ≡ next_byte radix t.now at }
 {
     let v = spaced_byte(t, at, radix);
     if v < 256 {
-        return Num::Is {
+        return Ok(Read {
             value: v as u32,
             next: at + 3,
-        };
+        });
     }
     numbers::any_next(t, at, radix)
 }

@@ -16,11 +16,10 @@ use Rattle.any_radix.specs.ReadAny.{MeetsAny, read_any, reading_any}
 use Rattle.laws.proofs.Unique.{no-second-answer-fits-through}
 use Rattle.any_radix.proofs.Agrees.{no-second-answer-of-any-radix-fits-through}
 use Rattle.way_in.specs.WayIn.{takes_by}
-use Rattle.answer.specs.Answer.{told, told_counts, told_verdict}
+use Rattle.std.specs.Prelude.{Ok, Err}
+use Rattle.answer.specs.Answer.{Answer, told, told_counts, told_verdict}
 use Rattle.reading_lines.specs.Laid.{whole_of, lay_of, Laid}
 use Rattle.reading.specs.Whole.{headed_by, only_taken, read_by, whole_by}
-use Rattle.answer.specs.declared.Answer.{Answer}
-use Rattle.answer.specs.declared.Answer.TheVariants.{Refusal, Accepted}
 use Rattle.answer.specs.declared.Counts.{Counts}
 use Rattle.answer.specs.declared.Verdict.{Verdict}
 use Rattle.answer.specs.declared.Verdict.TheVariants.{Finished, Stopped}
@@ -93,13 +92,13 @@ same-verdict (Stopped p) Finished e = absurd (let z : ◌≡◌ {A = ℕ} 0 1 = 
 same-verdict (Stopped p) (Stopped q) e = let i : p ≡ q = cc in ap Stopped i
 
 pub told-injective : (x y : Answer) → told x ≡ told y → x ≡ y
-told-injective (Refusal n p) (Refusal m q) e = let i : n ≡ m = cc in let j : p ≡ q = cc in λ k. Refusal (i k) (j k)
-told-injective (Refusal n p) (Accepted c v) e = absurd (let z : ◌≡◌ {A = ℕ} 0 1 = cc in omega arith)
-told-injective (Accepted c v) (Refusal n p) e = absurd (let z : ◌≡◌ {A = ℕ} 0 1 = cc in omega arith)
-told-injective (Accepted c v) (Accepted d w) e =
-    let i : told_counts c ≡ told_counts d = cc in
-    let j : told_verdict v ≡ told_verdict w = cc in
-    λ k. Accepted (same-counts c d i k) (same-verdict v w j k)
+told-injective (Err r) (Err s) e = let i : r.number ≡ s.number = cc in let j : r.place ≡ s.place = cc in λ k. Err (record { number = i k; place = j k })
+told-injective (Err r) (Ok a) e = absurd (let z : ◌≡◌ {A = ℕ} 0 1 = cc in omega arith)
+told-injective (Ok a) (Err r) e = absurd (let z : ◌≡◌ {A = ℕ} 0 1 = cc in omega arith)
+told-injective (Ok a) (Ok b) e =
+    let i : told_counts a.counts ≡ told_counts b.counts = cc in
+    let j : told_verdict a.verdict ≡ told_verdict b.verdict = cc in
+    λ k. Ok (record { counts = same-counts a.counts b.counts i k; verdict = same-verdict a.verdict b.verdict j k })
 
 -- at most one answer and one content of each buffer meet the contract of a reading, plain or ended
 pub no-second-answer : (ended : Bool) (s : List ℕ) (old : Held) (x y : Answer) (n₁ n₂ : Held) → Meets ended s old (told x) n₁ → Meets ended s old (told y) n₂ → (x ≡ y) × (n₁ ≡ n₂)

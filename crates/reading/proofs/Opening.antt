@@ -24,12 +24,10 @@ use Rattle.laws.proofs.Outcomes.{follow}
 use Rattle.halt.proofs.Stop.{end-in}
 use Rattle.header.specs.Told.{form_of}
 use Rattle.header.specs.declared.Form as text
-use Rattle.answer.specs.Answer.{told, held}
-use Rattle.answer.specs.declared.Answer.{Answer}
-use Rattle.answer.specs.declared.Answer.TheVariants.{Refusal}
+use Rattle.std.specs.Prelude.{Result, Ok, Err}
+use Rattle.answer.specs.Answer.{Answer, told, held}
+use Rattle.answer.specs.declared.Refusal.{Refusal}
 use Rattle.way_in.specs.WayIn.{Rooms, GateIs, takes_by}
-use Rattle.way_in.specs.declared.Gate.{Gate}
-use Rattle.way_in.specs.declared.Gate.TheVariants.{Open, Shut}
 use Rattle.way_in.proofs.Laws.{says-fits-from}
 use Rattle.opening.specs.Opening.{answered, behind_header, header_alone, lines, opening, opening_from, told_opening}
 use Rattle.opening.specs.declared.Opening.{Opening}
@@ -149,13 +147,13 @@ module _ (every ended : Bool) (s : List ℕ) {o : Opening} (e : told_opening o �
 pub ruleset texts = (rules, text-answered, text-lines)
 
 -- `read`
-module _ (every ended : Bool) (s xs ys vs ms fs : List ℕ) {g : Gate}
+module _ (every ended : Bool) (s xs ys vs ms fs : List ℕ) {g : Result (Unit {0}) Refusal}
     (w : GateIs (record { areas = length xs; symbols = length ys; values = length vs; masks = length ms; fixups = length fs }) s g) where
-  pub read-shut : {n p : ℕ} → g ≡ Shut n p → Laid (length s) (whole_by every ended (lengths (held xs ys vs ms fs)) s) (held xs ys vs ms fs) (Refusal n p) (held xs ys vs ms fs)
+  pub read-shut : {z : Refusal} → g ≡ Err z → {r : Answer} → r ≡ Err z → Laid (length s) (whole_by every ended (lengths (held xs ys vs ms fs)) s) (held xs ys vs ms fs) r (held xs ys vs ms fs)
   unfolding whole_by read_by lengths over
-  read-shut e = rw (← w.answered, e) (record { says = refl; areas = refl; symbols = refl; values = refl; masks = refl; fixups = refl })
+  read-shut e i = rw (← w.answered, e, i) (record { says = refl; areas = refl; symbols = refl; values = refl; masks = refl; fixups = refl })
 
-  module _ (e : g ≡ Open) where
+  module _ {u : Unit {0}} (e : g ≡ Ok u) where
     passed : (length s ≤ 65536) × (Rooms (length xs) (length ys) (length vs) (length ms) (length fs))
     passed = rw e at w.passed
 

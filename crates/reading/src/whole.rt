@@ -9,7 +9,7 @@ ghost use Rattle.reading.specs.Whole.{whole_text, whole_by};
 use answer::Answer;
 use opening::{Opening, open};
 use reading_lines::lines_from;
-use way_in::{Gate, Lent, admit};
+use way_in::{Lent, admit};
 
 // What a text opens with is answered, or the lines behind its header are read.
 fn read_text(
@@ -52,11 +52,6 @@ pub(crate) fn read(
         masks: masks.len(),
         fixups: fixups.len(),
     };
-    match admit(t, lent) {
-        Gate::Shut { number, at } => Answer::Refusal {
-            number: number,
-            place: at,
-        },
-        Gate::Open => read_text(t, every, ended, areas, symbols, values, masks, fixups),
-    }
+    admit(t, lent)?;
+    read_text(t, every, ended, areas, symbols, values, masks, fixups)
 }

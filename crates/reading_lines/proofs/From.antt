@@ -12,13 +12,11 @@ use Rattle.format.specs.Held.{Held}
 use Rattle.scan.proofs.Laws.Tests.{was-no, was-yes}
 use Rattle.way_in.specs.WayIn.{Rooms, fits_from}
 use Rattle.way_in.proofs.Laws.{fits-from-says}
-use Rattle.answer.specs.Answer.{held}
-use Rattle.answer.specs.declared.Answer.{Answer}
-use Rattle.answer.specs.declared.Answer.TheVariants.{Refusal}
+use Rattle.answer.specs.Answer.{Answer, held, refusal}
 use Rattle.reading_lines.specs.Laid.{Laid, lent_in, lines_from, whole_lines}
 
 module _ (ended : Bool) (f : Form) (s : List ℕ) (at head : ℕ) (xs ys vs ms fs : List ℕ) {r : Bool} (e : r ≡ fits_from at (length s) (lent_in (held xs ys vs ms fs))) where
-  pub from-misfit : not r ≡ true → Laid (length s) (lines_from ended f s at head (held xs ys vs ms fs)) (held xs ys vs ms fs) (Refusal 0 0) (held xs ys vs ms fs)
+  pub from-misfit : not r ≡ true → Laid (length s) (lines_from ended f s at head (held xs ys vs ms fs)) (held xs ys vs ms fs) (refusal 0 0) (held xs ys vs ms fs)
   unfolding lines_from over
   from-misfit h = rw (sym e ∙ was-no r h) (record { says = refl; areas = refl; symbols = refl; values = refl; masks = refl; fixups = refl })
 

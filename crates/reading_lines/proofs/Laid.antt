@@ -38,8 +38,8 @@ use Rattle.group_start.specs.Start.{going_at, starting_of}
 use Rattle.reading_lines.specs.Onward.{Ended, ends_of, onward, onward_at, told_two, GroupedTwo, Carried, Ready}
 use Rattle.reading_lines.proofs.Carrying.{carried_none}
 use Rattle.reading_lines.specs.Laid.{Begun, Blank, pairs_from, onward_from, SecondIs, Whole, whole_of, whole_at, whole_lines, Laid, counts_from, answer_two, RestIs}
-use Rattle.answer.specs.declared.Answer as code
-use Rattle.answer.specs.declared.Answer.TheVariants.{Refusal, Accepted}
+use Rattle.answer.specs.Answer as code
+use Rattle.answer.specs.Answer.{refusal}
 use Rattle.answer.specs.declared.Verdict.TheVariants.{Finished, Stopped}
 use Rattle.answer.specs.declared.Counts.{Counts}
 use Rattle.kept_sizes.specs.declared.Sizes.{Sizes}
@@ -59,10 +59,10 @@ use Rattle.tables.proofs.TableRows.{areas-held, tables-held}
 
 -- ------------------------------------------------------------------ small answers
 
-pub two-rejected : {o : Paired} {n p : ℕ} → o ≡ Rejected n p → Refusal n p ≡ answer_two o
+pub two-rejected : {o : Paired} {n p : ℕ} → o ≡ Rejected n p → refusal n p ≡ answer_two o
 two-rejected e = rw e
 
-pub two-all : {o : Paired} {n e k : ℕ} → o ≡ All n e k → Refusal 0 0 ≡ answer_two o
+pub two-all : {o : Paired} {n e k : ℕ} → o ≡ All n e k → refusal 0 0 ≡ answer_two o
 two-all e = rw e
 
 pub ruleset answers = (rules, two-rejected, two-all)
@@ -339,13 +339,13 @@ flatten t p e P h i (fine n) (fine z) (fine s) =
     λ j. fine (record { built = i k j; stop = h k j })
 
 module _ (ended : Bool) (f : Form) (text : List ℕ) (at head : ℕ) (xs₀ ys₀ xs ys : List ℕ) {o : Listed} (w : Grouped ended f text at head xs₀ ys₀ xs ys o) where
-  pub lines-refused : {n p : ℕ} → o ≡ Refused n p → (old : Held) → Laid (length text) (whole_lines ended f text at head) old (Refusal n p) old
+  pub lines-refused : {n p : ℕ} → o ≡ Refused n p → (old : Held) → Laid (length text) (whole_lines ended f text at head) old (refusal n p) old
   unfolding whole_lines paper.read_of paper.build Grouped over
   lines-refused {n} {p} g old =
       let k : Refuses ended f text at xs₀ ys₀ xs ys n p = rw g at w in
       rw k.says (record { says = refl; areas = refl; symbols = refl; values = refl; masks = refl; fixups = refl })
 
-  pub lines_long : o ≡ TooLong → length text ≤ 65536 → (old : Held) → Laid (length text) (whole_lines ended f text at head) old (Refusal 2 0) old
+  pub lines_long : o ≡ TooLong → length text ≤ 65536 → (old : Held) → Laid (length text) (whole_lines ended f text at head) old (refusal 2 0) old
   unfolding Grouped
   lines_long g h old = let k : (65536 < length text) × (xs ≡ xs₀) × (ys ≡ ys₀) = rw g at w in absurd (omega (arith, k.0))
 

@@ -22,7 +22,7 @@ use Rattle.turns.specs.Turns.{ending_of}
 use Rattle.group_start.specs.Start.{starting_of}
 use Rattle.answer.specs.Answer.{AcceptedIs, held}
 use Rattle.reading_lines.specs.Laid.{Begun, Blank, pairs_from, counts_from, RestIs}
-use Rattle.answer.specs.declared.Answer as code
+use Rattle.answer.specs.Answer as code
 use Rattle.answer.specs.declared.Counts.{Counts}
 use Rattle.kept_sizes.specs.declared.Sizes.{Sizes}
 use Rattle.tables.specs.declared.group.Found.{Found}

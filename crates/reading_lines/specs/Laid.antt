@@ -23,8 +23,8 @@ use Rattle.tables.specs.GroupOne.{Hold}
 use Rattle.kept_sizes.specs.Sizes.{SizesAre}
 use Rattle.group_start.specs.Start.{starting_of}
 use Rattle.reading_lines.specs.Onward.{Ended, GroupedTwo, Carried, ends_of, onward}
-use Rattle.answer.specs.declared.Answer as code
-use Rattle.answer.specs.declared.Answer.TheVariants.{Refusal}
+use Rattle.answer.specs.Answer as code
+use Rattle.answer.specs.Answer.{refusal}
 use Rattle.answer.specs.declared.Counts.{Counts}
 use Rattle.kept_sizes.specs.declared.Sizes.{Sizes}
 use Rattle.tables.specs.declared.group.Found.{Found}
@@ -107,8 +107,8 @@ counts_from d z n k = record { areas = d.areas; symbols = d.symbols; lines = n; 
 
 -- a refusal of group two
 abbrev pub answer_two : Paired → code.Answer
-answer_two (Rejected n p) = Refusal n p
-answer_two (All n e k) = Refusal 0 0
+answer_two (Rejected n p) = refusal n p
+answer_two (All n e k) = refusal 0 0
 
 -- group two and what is laid out, for the tables that the rows hold
 pub record RestIs (ended : Bool) (f : Form) (text : List ℕ) (d : Found) (xs ys : List ℕ) (old : Held) (r : code.Answer) (new : Held) : Type 0 where

@@ -2,7 +2,7 @@
 ghost use Rattle.std.specs.Prelude.{◌≡◌};
 ghost use Rattle.reading_lines.specs.Laid.{counts_from, answer_two};
 
-use answer::{Answer, Counts};
+use answer::{Answer, Counts, Refusal};
 use kept_sizes::Sizes;
 use tables::Found;
 use turns::Paired;
@@ -26,17 +26,14 @@ pub(crate) fn refuse_two(two: Paired) -> Answer
     ensures { result ≡ answer_two two }
 {
     match two {
-        Paired::Rejected { number, at } => Answer::Refusal {
-            number: number,
-            place: at,
-        },
+        Paired::Rejected { number, at } => Err(Refusal { number, place: at }),
         Paired::All {
             lines: _,
             stop: _,
             fixups: _,
-        } => Answer::Refusal {
+        } => Err(Refusal {
             number: 0,
             place: 0,
-        },
+        }),
     }
 }

@@ -6,7 +6,7 @@ ghost use Rattle.header.specs.Told.{form_of};
 ghost use Rattle.answer.specs.Answer.{held};
 ghost use Rattle.reading_lines.specs.Laid.{Laid, lines_from};
 
-use answer::Answer;
+use answer::{Answer, Refusal};
 use header::Form;
 use way_in::{Lent, fits_from};
 
@@ -40,10 +40,10 @@ pub fn lines_from(
         fixups: fixups.len(),
     };
     if !fits_from(at, t.len(), lent) {
-        return Answer::Refusal {
+        return Err(Refusal {
             number: 0,
             place: 0,
-        };
+        });
     }
     lines::read_lines(
         t, at, head, form, ended, areas, symbols, values, masks, fixups,

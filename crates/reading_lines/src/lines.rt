@@ -6,7 +6,7 @@ ghost use Rattle.way_in.specs.WayIn.{Rooms};
 ghost use Rattle.reading_lines.specs.Laid.{Laid, whole_lines};
 
 use crate::rest::rest;
-use answer::Answer;
+use answer::{Answer, Refusal};
 use header::Form;
 use rooms::{AREA_ROOM, SYMBOL_ROOM};
 use tables::{Listed, group_over};
@@ -31,14 +31,11 @@ fn read_many(
     let mut ys = [0u32; SYMBOL_ROOM];
     let one = group_over(t, at, head, form, ended, &mut xs, &mut ys);
     match one {
-        Listed::Refused { number, at } => Answer::Refusal {
-            number: number,
-            place: at,
-        },
-        Listed::TooLong => Answer::Refusal {
+        Listed::Refused { number, at } => Err(Refusal { number, place: at }),
+        Listed::TooLong => Err(Refusal {
             number: 2,
             place: 0,
-        },
+        }),
         Listed::Done { found } => rest(
             t, found, form, ended, &mut xs, &ys, areas, symbols, values, masks, fixups,
         ),
@@ -65,14 +62,11 @@ pub(crate) fn read_lines(
     let mut ys = [0u32; 320];
     let one = group_over(t, at, head, form, ended, &mut xs, &mut ys);
     match one {
-        Listed::Refused { number, at } => Answer::Refusal {
-            number: number,
-            place: at,
-        },
-        Listed::TooLong => Answer::Refusal {
+        Listed::Refused { number, at } => Err(Refusal { number, place: at }),
+        Listed::TooLong => Err(Refusal {
             number: 2,
             place: 0,
-        },
+        }),
         Listed::Done { found } => {
             if 64 < found.symbols {
                 return read_many(

@@ -4,12 +4,13 @@ use Prim.Native.Nat.{ℕ}
 use mathlib.Core.Path.{◌≡◌, ◌∙◌, ap, sym}
 use borrow.Author.Rules.{rules}
 use Rattle.format.specs.Reading as the
-use Rattle.answer.specs.Answer.{told_counts, told, told_verdict}
+use Rattle.std.specs.Prelude.{Ok, Err}
+use Rattle.answer.specs.Answer.{Answer, told_counts, told, told_verdict}
+use Rattle.answer.specs.declared.Accepted.{Accepted}
+use Rattle.answer.specs.declared.Refusal.{Refusal}
 use Rattle.answer.specs.declared.Counts.{Counts}
 use Rattle.answer.specs.declared.Verdict.{Verdict}
 use Rattle.answer.specs.declared.Verdict.TheVariants.{Finished, Stopped}
-use Rattle.answer.specs.declared.Answer.{Answer}
-use Rattle.answer.specs.declared.Answer.TheVariants.{Accepted, Refusal}
 use Rattle.counts_of.specs.Told.{told_counted}
 use Rattle.counts_of.specs.declared.Counted.{Counted}
 use Rattle.counts_of.specs.declared.Counted.TheVariants.{Equal, NotEqual, NotTold}
@@ -29,11 +30,11 @@ finished-numbers {v} {c} e f = f ∙ sym (ap (λ (x : Verdict). accepted_numbers
 pub stopped-numbers : {v : Verdict} {c : the.Counts} {p : ℕ} {r : ReadNumbers} → v ≡ Stopped p → r ≡ counted_numbers c 0 p → r ≡ accepted_numbers c (told_verdict v)
 stopped-numbers {v} {c} e f = f ∙ sym (ap (λ (x : Verdict). accepted_numbers c (told_verdict x)) e)
 
-pub refusal-numbers : {a : Answer} {n p : ℕ} {r : ReadNumbers} → a ≡ Refusal n p → r ≡ refused_numbers n p → r ≡ read_numbers (told a)
+pub refusal-numbers : {a : Answer} {z : Refusal} {r : ReadNumbers} → a ≡ Err z → r ≡ refused_numbers z.number z.place → r ≡ read_numbers (told a)
 refusal-numbers e f = f ∙ sym (ap (λ (x : Answer). read_numbers (told x)) e)
 
-pub answer-numbers : {a : Answer} {c : Counts} {v : Verdict} {r : ReadNumbers}
-    → a ≡ Accepted c v → r ≡ accepted_numbers (told_counts c) (told_verdict v) → r ≡ read_numbers (told a)
+pub answer-numbers : {a : Answer} {x : Accepted} {r : ReadNumbers}
+    → a ≡ Ok x → r ≡ accepted_numbers (told_counts x.counts) (told_verdict x.verdict) → r ≡ read_numbers (told a)
 answer-numbers e f = f ∙ sym (ap (λ (x : Answer). read_numbers (told x)) e)
 
 pub ruleset numbers = (rules, finished-numbers, stopped-numbers, refusal-numbers, answer-numbers)

@@ -75,7 +75,7 @@ pub fn read_numbers(answer: answer::Answer) -> ReadNumbers
     ensures { result ≡ read_numbers (reads.told answer) }
 {
     match answer {
-        answer::Answer::Refusal { number, place } => refused(number, place),
-        answer::Answer::Accepted { counts, verdict } => accepted(counts, verdict),
+        Err(refusal) => refused(refusal.number, refusal.place),
+        Ok(told) => accepted(told.counts, told.verdict),
     }
 }

@@ -1,6 +1,6 @@
 -- The rows of a text's T and R records stand for those records.
 -- Assumes nothing.
-use Prim.Native.Nat.{ℕ, zero, suc, ◌+◌, ◌*◌}
+use Prim.Native.Nat.{ℕ, suc, ◌+◌, ◌*◌}
 use mathlib.Core.Path.{◌≡◌, refl, ap, sym, ◌∙◌}
 use mathlib.Core.List.{List, [], ◌∷◌, ◌++◌, append_assoc}
 use native.Mathlib.Nat.{add-zero, zero-add}
@@ -14,7 +14,7 @@ use Rattle.format.specs.Records.{Taken}
 use Rattle.laws.specs.Rows.{from}
 use Rattle.laws.proofs.Decoded.{column, first-column, decoded}
 use Rattle.record_rows.specs.RecordRows.{all_fragments, content_bytes, content_in, count_in, fragment_columns, fragment_numbers, fragments_of, pair_columns, pair_count, pair_numbers, pair_rows, row_in}
-use Rattle.record_parts.specs.Parts.{fragment_from, pair_from, pairs_in, placed_in, placed_of}
+use Rattle.record_parts.specs.Parts.{fragment_from, pair_from, placed_in, placed_of}
 
 three-numbers : (f : Fragment) → length (fragment_numbers f) ≡ fragment_columns
 unfolding fragment_numbers

@@ -2,12 +2,11 @@
 -- Assumes nothing.
 use Prim.Native.Nat.{ℕ, zero, suc, min, ◌+◌, ◌*◌, ◌≤◌, ◌<◌}
 use mathlib.Core.Path.{◌≡◌, refl, ap, sym, ◌∙◌}
-use mathlib.Core.List.{List, [], ◌∷◌, ◌++◌}
+use mathlib.Core.List.{List, ◌∷◌, ◌++◌}
 use native.Mathlib.Nat.{add-zero, zero-add}
 use native.Mathlib.Omega.{arith}
-use lib.ListN.{length, get_or, take, drop, get_or-append}
+use lib.ListN.{length, get_or, drop, get_or-append}
 use lib.Seq.{sets, sets-eq}
-use Rattle.format.specs.Pairs.{Fragment}
 use Rattle.laws.specs.Rows.{from, fragment}
 use Rattle.sites.specs.Columns.{fragment_at, fragments_in}
 use Rattle.record_rows.specs.RecordRows.{fragment_columns}

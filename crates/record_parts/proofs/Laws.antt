@@ -1,6 +1,6 @@
 -- What the proofs of the functions share: a law for each return, and the loop's invariant.
 -- Assumes nothing.
-use Prim.Native.Nat.{ℕ, zero, suc, min, ◌+◌, ◌-◌, ◌*◌, ◌≤◌, ◌<◌}
+use Prim.Native.Nat.{ℕ, suc, min, ◌+◌, ◌-◌, ◌*◌, ◌≤◌, ◌<◌}
 use mathlib.Core.Path.{◌≡◌, refl, ap, sym, ◌∙◌}
 use mathlib.Core.Bool.{Bool, true, false}
 use mathlib.Core.List.{List}
@@ -16,7 +16,6 @@ use borrow.Author.Rules.{rules}
 use borrow.Author.Tests.{leb-true, leb-false}
 use Rattle.laws.specs.Rows.{from}
 use Rattle.record_rows.specs.RecordRows.{fragment_columns}
-use Rattle.sites.specs.declared.Line.{Line}
 use Rattle.record_parts.specs.Columns.{line_from, cell, column, Three, ThreeAt}
 
 -- `line_at`

@@ -44,13 +44,6 @@ fn put_row(rows: &[u32], p: usize, i: usize, ms: &mut [u32], es: &mut [u32], xs:
     put_u32(xs, i, at(rows, p + 2));
 }
 
-// The lesser of two counts.
-fn fewer(a: usize, b: usize) -> usize
-    ensures { result ≡ min a b }
-{
-    if a <= b { a } else { b }
-}
-
 // The first n fragments, of at most 64, whose rows begin at a place.
 pub fn columns_at(
     rows: &[u32],
@@ -62,12 +55,10 @@ pub fn columns_at(
 )
     ensures { Three rows.now p (min n 64) ms.old es.old xs.old ms.new es.new xs.new }
 {
-    let k = fewer(n, 64);
-    let mut q = fewer(p, rows.len());
-    let mut i: usize = 0;
-    while i < k {
+    let k = n.min(64);
+    let mut q = p.min(rows.len());
+    for i in 0..k {
         put_row(rows, q, i, ms, es, xs);
         q += 3;
-        i += 1;
     }
 }

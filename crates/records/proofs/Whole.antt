@@ -38,17 +38,19 @@ use Rattle.any_radix.specs.ReadAny.{read_any}
 use Rattle.any_radix.specs.PairsAny.{PairsMeetAny, read_pairs_any}
 use Rattle.any_radix.proofs.Agrees.{accepted-is-read}
 use Rattle.any_radix.proofs.Bounds.{WasReadAny, few-records-of-any-radix, short-of-any-radix, what-was-read-of-any-radix}
-use Rattle.admission.specs.Admits.{GateIs, GateIsAny, IsRead, IsReadAny}
-use Rattle.admission.specs.declared.Gate.{Gate}
-use Rattle.admission.specs.declared.Gate.TheVariants.{Open, Shut}
+use Rattle.std.specs.Prelude.{Ok, Err}
+use Rattle.answer.specs.declared.Refusal.{Refusal}
+use Rattle.admission.specs.Admits.{Gate, GateIs, GateIsAny, IsRead, IsReadAny}
 use Rattle.pair_rows.specs.Rows.{held, room_for}
-use Rattle.pairs_answer.specs.Told.{told, told_counts, unlaid}
+use Rattle.pairs_answer.specs.Told.{PairsAnswer, told, told_counts, unlaid}
 use Rattle.pairs_answer.proofs.Laws.{told-injective}
 use Rattle.records.specs.Storing.{Stored}
 use Rattle.records.specs.Walking.{EachFits, Fitting, Laid, PairFits, TwoAt}
 use Rattle.pair_rows.specs.declared.PairCounts.{PairCounts}
-use Rattle.pairs_answer.specs.declared.PairsAnswer.{PairsAnswer}
-use Rattle.pairs_answer.specs.declared.PairsAnswer.TheVariants.{Accepted, Refusal}
+
+-- a refusal of its own
+abbrev refused_at : (number place : ℕ) → PairsAnswer
+refused_at n p = Err (record { number = n; place = p })
 
 -- every pair of a text that is read fits
 fits_one : (m place k : ℕ) (q : the.Pair) → fits_body m place q ≡ fine k → PairFits q
@@ -83,7 +85,7 @@ module _ (s : List ℕ) (w : IsReadAny s) where
   unfolding counted
   all_fit = record { each = each_fits 0 w.as_read.built.lines pairs_of was.counts }
 
-  laid_so : (ps bs fs ps' bs' fs' : List ℕ) (c : PairCounts) → paper.pairs_room (held ps bs fs) ≡ true → Stored pairs_of (held ps bs fs) c (held ps' bs' fs') → Laid s (held ps bs fs) (Accepted c) (held ps' bs' fs')
+  laid_so : (ps bs fs ps' bs' fs' : List ℕ) (c : PairCounts) → paper.pairs_room (held ps bs fs) ≡ true → Stored pairs_of (held ps bs fs) c (held ps' bs' fs') → Laid s (held ps bs fs) (Ok c) (held ps' bs' fs')
   unfolding paper.counts_of paper.rows_of over
   laid_so ps bs fs ps' bs' fs' c room v =
       let fit = rows_fit (held ps bs fs) pairs_of room (few-records-of-any-radix paper.roomy s w.as_read w.is) in
@@ -100,7 +102,7 @@ module _ (s : List ℕ) (w : IsReadAny s) where
 
   -- `lay_text`
   module _ {h : code.Head} (e : told_head h ≡ header s) where
-    pub has-header : h ≡ Missing → (old : paper.HeldPairs) → Laid s old (Refusal 4 0) old
+    pub has-header : h ≡ Missing → (old : paper.HeldPairs) → Laid s old (refused_at 4 0) old
     has-header g old = absurd (let m : told_head Missing ≡ some opening.h = ap told_head (sym g) ∙ (e ∙ opening.is-head) in let z : ◌≡◌ {A = ℕ} 0 1 = cc in omega arith)
 
     module _ {f : text.Form} {n : ℕ} (g : h ≡ Found f n) where
@@ -135,7 +137,7 @@ module _ (s : List ℕ) (w : IsReadAny s) where
           two-fit = subst (λ (ps : List (Taken the.Pair)). Fitting ps) (sym two_is) all_fit
 
           pub text-laid : {ps bs fs ps' bs' fs' : List ℕ} {c : PairCounts} → paper.pairs_room (held ps bs fs) ≡ true → Stored (pairs_at true (form_of f) s p) (held ps bs fs) c (held ps' bs' fs')
-              → Laid s (held ps bs fs) (Accepted c) (held ps' bs' fs')
+              → Laid s (held ps bs fs) (Ok c) (held ps' bs' fs')
           text-laid {ps} {bs} {fs} {ps'} {bs'} {fs'} {c} room v =
               laid_so ps bs fs ps' bs' fs' c room (subst (λ (l : List (Taken the.Pair)). Stored l (held ps bs fs) c (held ps' bs' fs')) two_is v)
 
@@ -151,11 +153,11 @@ module _ (s ps bs fs : List ℕ) {r : Bool} (e : r ≡ room_for (length ps) (len
     no_room : paper.pairs_room (held ps bs fs) ≡ false
     no_room = room-is ∙ was-no r h
 
-    pub pairs-1 : paper.PairsMeet s (held ps bs fs) (told (Refusal 1 0)) (held ps bs fs)
+    pub pairs-1 : paper.PairsMeet s (held ps bs fs) (told (refused_at 1 0)) (held ps bs fs)
     unfolding paper.read_pairs over
     pairs-1 = record { says = rw no_room; held = rw no_room }
 
-    pub any-pairs-1 : PairsMeetAny s (held ps bs fs) (told (Refusal 1 0)) (held ps bs fs)
+    pub any-pairs-1 : PairsMeetAny s (held ps bs fs) (told (refused_at 1 0)) (held ps bs fs)
     unfolding read_pairs_any over
     any-pairs-1 = record { says = rw no_room; held = rw no_room }
 
@@ -177,30 +179,30 @@ module _ (s ps bs fs : List ℕ) {r : Bool} (e : r ≡ room_for (length ps) (len
     unfolding read_pairs_any
     any-pairs-laid w = record { says = rw pairs-room w.says; held = rw pairs-room w.held }
 
-    module _ {g : Gate} {n p : ℕ} (i : g ≡ Shut n p) {a : PairsAnswer} (j : a ≡ unlaid g) where
-      refused-so : a ≡ Refusal n p
+    module _ {g : Gate} {z : Refusal} (i : g ≡ Err z) {a : PairsAnswer} (j : a ≡ unlaid g) where
+      refused-so : a ≡ Err z
       unfolding unlaid
       refused-so = j ∙ ap unlaid i
 
       pub pairs-shut : GateIs s g → paper.PairsMeet s (held ps bs fs) (told a) (held ps bs fs)
       unfolding paper.read_pairs over
       pairs-shut w =
-          let k : read true paper.roomy s ≡ refused n p = rw i at w.passes in
+          let k : read true paper.roomy s ≡ refused z.number z.place = rw i at w.passes in
           rw refused-so (record { says = rw (pairs-room, k); held = rw (pairs-room, k) })
 
       pub any-pairs-shut : GateIsAny s g → PairsMeetAny s (held ps bs fs) (told a) (held ps bs fs)
       unfolding read_pairs_any over
       any-pairs-shut w =
-          let k : read_any paper.roomy s ≡ refused n p = rw i at w.passes in
+          let k : read_any paper.roomy s ≡ refused z.number z.place = rw i at w.passes in
           rw refused-so (record { says = rw (pairs-room, k); held = rw (pairs-room, k) })
 
-pub is_read : {s : List ℕ} {g : Gate} → GateIs s g → g ≡ Open → IsRead s
+pub is_read : {s : List ℕ} {g : Gate} → GateIs s g → {u : Unit {0}} → g ≡ Ok u → IsRead s
 is_read w i = rw i at w.passes
 
-pub is-read-too : {s : List ℕ} {g : Gate} → GateIs s g → g ≡ Open → IsReadAny s
-is-read-too {s} w i = let k = is_read w i in record { as_read = k.as_read; is = accepted-is-read paper.roomy s k.as_read k.is }
+pub is-read-too : {s : List ℕ} {g : Gate} → GateIs s g → {u : Unit {0}} → g ≡ Ok u → IsReadAny s
+is-read-too {s} w {u} i = let k = is_read w i in record { as_read = k.as_read; is = accepted-is-read paper.roomy s k.as_read k.is }
 
-pub any-is-read : {s : List ℕ} {g : Gate} → GateIsAny s g → g ≡ Open → IsReadAny s
+pub any-is-read : {s : List ℕ} {g : Gate} → GateIsAny s g → {u : Unit {0}} → g ≡ Ok u → IsReadAny s
 any-is-read w i = rw i at w.passes
 
 pub ruleset reading-pairs = (rules, pairs-1, pairs-room, pairs-laid, pairs-shut, is_read, is-read-too)

@@ -8,8 +8,7 @@ use Rattle.any_radix.specs.ReadAny.{read_any}
 use Rattle.laws.specs.Places.{pairs_at, records_at}
 use Rattle.record_rows.specs.ReadPairs.{HeldPairs, laid_over, pairs_from, roomy}
 use Rattle.records.specs.Storing.{Onward}
-use Rattle.pairs_answer.specs.Told.{told}
-use Rattle.pairs_answer.specs.declared.PairsAnswer.{PairsAnswer}
+use Rattle.pairs_answer.specs.Told.{PairsAnswer, told}
 use Rattle.pair_walk.specs.declared.Walked.{Walked}
 use Rattle.records.specs.declared.walk.Turn.{Turn}
 use Rattle.records.specs.declared.walk.Turn.TheVariants.{Done, Goes}

@@ -7,6 +7,7 @@ ghost use Rattle.records.specs.Walking.{Laid};
 
 use crate::group_two::group_two_at;
 use crate::walk::store_all;
+use answer::Refusal;
 use header::Head;
 use pairs_answer::PairsAnswer;
 
@@ -21,13 +22,13 @@ pub(crate) fn lay_text(
     ensures { Laid t.now (held pairs.old content.old fragments.old) result (held pairs.new content.new fragments.new) }
 {
     let Head::Found { form, next } = header::format_spec(t) else {
-        return PairsAnswer::Refusal {
+        return Err(Refusal {
             number: 4,
             place: 0,
-        };
+        });
     };
     let at = next + scan::line_ending(t, next);
     let p = group_two_at(t, at, form);
     let counts = store_all(t, p, form, pairs, content, fragments);
-    PairsAnswer::Accepted { counts: counts }
+    Ok(counts)
 }

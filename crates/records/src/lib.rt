@@ -7,8 +7,8 @@ ghost use Rattle.pair_rows.specs.Rows.{held};
 ghost use Rattle.pairs_answer.specs.Told.{told};
 
 use crate::laying::lay_text;
-use admission::Gate;
 use admits::{admit, admit_any};
+use answer::Refusal;
 use pair_rows::has_room;
 use pairs_answer::{PairsAnswer, before_laying};
 
@@ -27,13 +27,13 @@ pub fn read_pairs(
     ensures { PairsMeet text.now (held pairs.old content.old fragments.old) (told result) (held pairs.new content.new fragments.new) }
 {
     if !has_room(pairs.len(), content.len(), fragments.len()) {
-        return PairsAnswer::Refusal {
+        return Err(Refusal {
             number: 1,
             place: 0,
-        };
+        });
     }
     let gate = admit(text);
-    let Gate::Open = gate else {
+    let Ok(()) = gate else {
         return before_laying(gate);
     };
     lay_text(text, pairs, content, fragments)
@@ -49,13 +49,13 @@ pub fn read_any_pairs(
     ensures { PairsMeetAny text.now (held pairs.old content.old fragments.old) (told result) (held pairs.new content.new fragments.new) }
 {
     if !has_room(pairs.len(), content.len(), fragments.len()) {
-        return PairsAnswer::Refusal {
+        return Err(Refusal {
             number: 1,
             place: 0,
-        };
+        });
     }
     let gate = admit_any(text);
-    let Gate::Open = gate else {
+    let Ok(()) = gate else {
         return before_laying(gate);
     };
     lay_text(text, pairs, content, fragments)

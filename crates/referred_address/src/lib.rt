@@ -11,25 +11,11 @@ use references::{Reference, Refers, refers_at};
 use sites::Filled;
 use target_words::add64;
 
-// An address, or that no kept area and no outside symbol is referred to.
-#[derive(Clone, Copy)]
-pub enum Address {
-    Nothing,
-    At(u64),
-}
-
 // The i-th address; past the end 0.
 fn chosen_at(addresses: &[u64], i: usize) -> u64
     ensures { result ≡ get_or addresses.now i 0 }
 {
-    if i < addresses.len() { addresses[i] } else { 0 }
-}
-
-// A value as a number to add to an address.
-fn far(x: u32) -> u64
-    ensures { result ≡ x }
-{
-    x as u64
+    addresses.get(i).copied().unwrap_or(0)
 }
 
 // An outside symbol's by its index in the symbol table, an area's by its id; and the value added.
@@ -37,9 +23,9 @@ fn address_of(to: Reference, index: u32, areas: &[u64], outside: &[u64]) -> u64
     ensures { result ≡ address_by areas.now outside.now index (refers_of to) }
 {
     if to.outside == 1 {
-        return add64(chosen_at(outside, wide(index)), far(to.value));
+        return add64(chosen_at(outside, wide(index)), u64::from(to.value));
     }
-    add64(chosen_at(areas, wide(to.what)), far(to.value))
+    add64(chosen_at(areas, wide(to.what)), u64::from(to.value))
 }
 
 // What a fragment refers to.
@@ -59,7 +45,7 @@ fn refers(
     refers_at(&ms, &es, &xs, areas, symbols, filled, 0, entry)
 }
 
-// The address that a fragment refers to.
+// The address that a fragment refers to; none where that is no kept area and no outside symbol.
 pub fn address_to(
     mode: u32,
     entry: u32,
@@ -69,13 +55,13 @@ pub fn address_to(
     filled: Filled,
     chosen: &[u64],
     outside: &[u64],
-) -> Address
+) -> Option<u64>
     ensures { (place : ℕ) → told_address result ≡ address_in chosen.now outside.now index (refers_in areas.now symbols.now filled (fragment mode entry index) entry place) }
 {
     let to = refers(mode, entry, index, areas, symbols, filled);
     match to {
-        Refers::Missing => Address::Nothing,
-        Refers::Nothing => Address::Nothing,
-        Refers::To(t) => Address::At(address_of(t, index, chosen, outside)),
+        Refers::Missing => None,
+        Refers::Nothing => None,
+        Refers::To(t) => Some(address_of(t, index, chosen, outside)),
     }
 }

@@ -1,38 +1,29 @@
 -- The halt of the line behind a T line: one law for each return, and the loop over the fragments.
 -- Assumes nothing.
-use Prim.Native.Nat.{ℕ, suc, zero, ◌-◌, ◌<◌, ◌≤◌}
-use mathlib.Core.Path.{◌≡◌, refl, sym, ap, ◌∙◌}
+use Prim.Native.Nat.{ℕ, suc, zero, ◌+◌, ◌-◌, ◌<◌, ◌≤◌}
+use mathlib.Core.Path.{◌≡◌, sym, ap, ◌∙◌}
 use mathlib.Core.Bool.{Bool}
 use mathlib.Core.List.{List}
 use native.Mathlib.Omega.{arith}
 use lib.ListN.{length}
 use borrow.Author.Rules.{rules}
+use Rattle.std.specs.Prelude.{Result, Ok, Err}
 use Rattle.format.specs.Got.{Got, Reader, again, is, isnt, many}
 use Rattle.format.specs.Header.{Form}
 use Rattle.format.specs.Pairs.{area_part, fragment}
 use Rattle.format.specs.Pairs as the
-use Rattle.numbers.specs.Told.{told}
-use Rattle.numbers.specs.declared.Num.{Num}
-use Rattle.numbers.specs.declared.Num.TheVariants.{Is, No}
+use Rattle.numbers.specs.Told.{told, code}
+use Rattle.numbers.specs.declared.Halt as reader
+use Rattle.numbers.specs.declared.Read.{Read}
 use Rattle.fragments.specs.Fragments.{told_fragment}
-use Rattle.fragments.specs.declared.fragments.FragmentAt.{FragmentAt}
-use Rattle.fragments.specs.declared.fragments.FragmentAt.TheVariants.{Fragment, NoFragment}
-use Rattle.halt.specs.Halt.{Halt, fragment_due, why}
+use Rattle.usual_fragment.specs.Usual.{seen}
+use Rattle.usual_fragment.specs.declared.Fragment.{Fragment}
+use Rattle.halt.specs.Halt.{fragment_due, why}
 use Rattle.line_halt.proofs.Laws.GroupOne.{halt}
-
--- `fragment_halt`
-pub fragment-1 : {b : FragmentAt} {r p : ℕ} → b ≡ NoFragment r p → halt r p ≡ why (told_fragment b)
-fragment-1 g = rw g
-
-pub fragment-2 : {b : FragmentAt} {m v i p : ℕ} → b ≡ Fragment m v i p → halt 4 p ≡ why (told_fragment b)
-fragment-2 g = rw g
 
 -- the item that is due behind a list of them: k turns are left, at p
 pub record Due {B : Type 0} (item : Reader B) (s : List ℕ) (k₀ p₀ k p : ℕ) : Type 0 where
   pub same : item s (many k₀ item s p₀).end ≡ item s (many k item s p).end
-
-pub due-start : {B : Type 0} (item : Reader B) (s : List ℕ) (k p : ℕ) → Due item s k p k p
-due-start item s k p = record { same = refl }
 
 module _ {B : Type 0} {item : Reader B} {s : List ℕ} {k₀ p₀ k p : ℕ} (w : Due item s k₀ p₀ k p) where
   -- no turn is left
@@ -59,34 +50,46 @@ module _ {B : Type 0} {item : Reader B} {s : List ℕ} {k₀ p₀ k p : ℕ} (w 
   due-stop : {r x : ℕ} → item s p ≡ isnt r x → item s (many k₀ item s p₀).end ≡ isnt r x
   due-stop e = w.same ∙ no_more k e
 
--- `fragments_halt`
-module _ (radix : ℕ) (big : Bool) {s : List ℕ} {k₀ p₀ k p : ℕ} (w : Due (fragment radix big) s k₀ p₀ k p) {b : FragmentAt} (e : told_fragment b ≡ fragment radix big s p) where
-  pub fragments-more : 0 < k → {m v i q : ℕ} → b ≡ Fragment m v i q → Due (fragment radix big) s k₀ p₀ (k - 1) q
-  fragments-more h {m} {v} {i} {q} g =
-      let f : fragment radix big s p ≡ is (record { mode = m; entry = v; index = i }) q = rw (← e, g) in
-      due-more w h f
+-- `next_due`: i turns are done
+pub record Turned (radix : ℕ) (big : Bool) (s : List ℕ) (p₀ i p : ℕ) : Type 0 where
+  pub due : Due (fragment radix big) s (length s) p₀ (length s - i) p
 
-  pub fragments-stop : {r x : ℕ} → b ≡ NoFragment r x → {h : Halt} → h ≡ why (told_fragment b) → h ≡ why (fragment radix big s (many k₀ (fragment radix big) s p₀).end)
-  fragments-stop {r} {x} g i =
-      let f : fragment radix big s p ≡ isnt r x = rw (← e, g) in
-      i ∙ ap (λ (y : FragmentAt). why (told_fragment y)) g ∙ ap (λ (y : Got the.Fragment). why y) (sym (due-stop w f))
+pub turned-start : (radix : ℕ) (big : Bool) (s : List ℕ) (p : ℕ) → Turned radix big s p 0 p
+turned-start radix big s p = let z : length s ≡ length s - 0 = omega arith in record { due = record { same = ap (λ (j : ℕ). fragment radix big s (many j (fragment radix big) s p).end) z } }
 
-module _ (radix : ℕ) (big : Bool) {s : List ℕ} {k₀ p₀ k p : ℕ} (w : Due (fragment radix big) s k₀ p₀ k p) (l : k ≤ 0) where
-  pub fragments-out : {g : Got the.Fragment} → g ≡ fragment radix big s p → {h : Halt} → h ≡ why g → h ≡ why (fragment radix big s (many k₀ (fragment radix big) s p₀).end)
-  fragments-out e i = i ∙ ap (λ (y : Got the.Fragment). why y) (e ∙ sym (due-out w l))
+module _ {radix : ℕ} {big : Bool} {s : List ℕ} {p₀ i p : ℕ} (w : Turned radix big s p₀ i p) {b : Result (Read Fragment) reader.Halt} (e : told_fragment b ≡ fragment radix big s p) where
+  pub turned-more : i < length s → {r : Read Fragment} → b ≡ Ok r → Turned radix big s p₀ (i + 1) r.next
+  turned-more h {r} g =
+      let f : fragment radix big s p ≡ is (seen r.value) r.next = rw (← e, g) in
+      let z : length s - i - 1 ≡ length s - (i + 1) = omega arith in
+      record { due = rw z at (due-more w.due (omega arith) f) }
+
+  pub turned-stop : {h : reader.Halt} → b ≡ Err h → told_fragment (Err h) ≡ fragment radix big s (many (length s) (fragment radix big) s p₀).end
+  turned-stop {h} g =
+      let f : fragment radix big s p ≡ isnt (code h.reason) h.at = rw (← e, g) in
+      sym (due-stop w.due f)
+
+pub turned-out : {radix : ℕ} {big : Bool} {s : List ℕ} {p₀ i p : ℕ} → Turned radix big s p₀ i p → length s ≤ i → {g : Got the.Fragment} → g ≡ fragment radix big s p → g ≡ fragment radix big s (many (length s) (fragment radix big) s p₀).end
+turned-out w l e = e ∙ sym (due-out w.due (omega arith))
+
+-- `fragment_due`
+module _ (f : Form) (s : List ℕ) {m : Result (Read ℕ) reader.Halt} (e : told m ≡ area_part f s 0) where
+  pub due-1 : {h : reader.Halt} → m ≡ Err h → told_fragment (Err h) ≡ fragment_due f s 0
+  unfolding fragment_due
+  due-1 g = rw (← e, g)
+
+  pub due-2 : {r : Read ℕ} → m ≡ Ok r → {x : Got the.Fragment} → x ≡ fragment f.radix f.big s (many (length s) (fragment f.radix f.big) s r.next).end → x ≡ fragment_due f s 0
+  unfolding fragment_due
+  due-2 g h = rw (← e, g) h
 
 -- `relocation_halt`
-module _ (f : Form) (s : List ℕ) {m : Num} (e : told m ≡ area_part f s 0) where
-  pub relocation-1 : {r p : ℕ} → m ≡ No r p → halt r p ≡ why (fragment_due f s 0)
-  unfolding fragment_due
+module _ (f : Form) (s : List ℕ) {b : Result (Read Fragment) reader.Halt} (e : told_fragment b ≡ fragment_due f s 0) where
+  pub relocation-1 : {h : reader.Halt} → b ≡ Err h → halt (code h.reason) h.at ≡ why (fragment_due f s 0)
   relocation-1 g = rw (← e, g)
 
-  pub relocation-2 : {v q : ℕ} → m ≡ Is v q → {x : Halt} → x ≡ why (fragment f.radix f.big s (many (length s) (fragment f.radix f.big) s q).end) → x ≡ why (fragment_due f s 0)
-  unfolding fragment_due
-  relocation-2 g h = rw (← e, g) h
+  pub relocation-2 : {r : Read Fragment} → b ≡ Ok r → halt 4 r.next ≡ why (fragment_due f s 0)
+  relocation-2 g = rw (← e, g)
 
-pub ruleset one_fragment = (rules, fragment-1, fragment-2)
+pub ruleset fragments = (rules, turned-start, turned-more, turned-stop, turned-out)
 
-pub ruleset fragments = (rules, due-start, fragments-more, fragments-stop, fragments-out)
-
-pub ruleset relocations = (rules, relocation-1, relocation-2)
+pub ruleset relocations = (rules, due-1, due-2, relocation-1, relocation-2)

@@ -10,12 +10,15 @@ ghost use Rattle.relocation_out.specs.RelocationOut.{part_bytes, parts_of, reloc
 use content_out::{put_bytes, put_two};
 use digits_out::put;
 
+// The first mode that has two bytes.
+const FIRST_LONG: u32 = 240;
+
 // A mode of 11 bits: one byte below F0, else two.
 fn put_mode(out: &mut [u8], at: usize, m: u32) -> usize
     ensures { Wrote (hex_bytes (shortest (m % 2048))) out.old at result out.new }
 {
     let k = m % 2048;
-    if k < 240 {
+    if k < FIRST_LONG {
         return put_bytes(out, at, &[k as u8]);
     }
     put_bytes(out, at, &[(240 + k / 256) as u8, (k % 256) as u8])
@@ -49,10 +52,8 @@ fn put_parts(out: &mut [u8], at: usize, big: bool, rows: &[u32], first: u32, n: 
     let f = first as usize;
     let k = n as usize;
     let mut p = at;
-    let mut i = 0;
-    while i < k {
+    for i in 0..k {
         p = put_row(out, p, big, rows, f + i);
-        i += 1;
     }
     p
 }

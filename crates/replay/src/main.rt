@@ -9,7 +9,7 @@
 mod record;
 mod sum;
 
-use answer::Answer;
+use answer::{Accepted, Answer};
 use record::Told;
 use rooms::{AREA_ROOM, FIXUP_ROOM, IMAGE_ROOM, INPUT_ROOM, SYMBOL_ROOM};
 
@@ -51,8 +51,8 @@ fn same(
     fixups: &[u32; FIXUP_ROOM],
 ) -> bool {
     match answer {
-        Answer::Refusal { number, place } => record::refused(told, number, place),
-        Answer::Accepted { counts, verdict } => {
+        Err(refusal) => record::refused(told, refusal.number, refusal.place),
+        Ok(Accepted { counts, verdict }) => {
             let place = sum::stop(verdict);
             let h = sum::verdict_and_counts(verdict, counts);
             let h1 = sum::area_words(areas, sum::area_numbers(counts.areas), h);
@@ -86,16 +86,9 @@ fn holds(told: Told, ended: bool, text: &[u8]) -> bool {
 
 // One more answer.
 fn counted(t: Tally, same: bool) -> Tally {
-    let answers = std::num::wrapping_add_u64(t.answers, 1);
-    if same {
-        return Tally {
-            answers: answers,
-            differ: t.differ,
-        };
-    }
     Tally {
-        answers: answers,
-        differ: std::num::wrapping_add_u64(t.differ, 1),
+        answers: t.answers.wrapping_add(1),
+        differ: t.differ.wrapping_add(u64::from(!same)),
     }
 }
 
@@ -106,12 +99,10 @@ fn all(room: &mut [u8]) -> Tally {
         answers: 0,
         differ: 0,
     };
-    let mut turns: u64 = 1000000;
-    while 0 < turns {
-        let r = record::next();
-        if !r.there {
+    for _ in 0..1000000 {
+        let Some(r) = record::next() else {
             return t;
-        }
+        };
         if record::fill(room, r.length) < r.length {
             return counted(t, false);
         }
@@ -119,7 +110,6 @@ fn all(room: &mut [u8]) -> Tally {
         let ended = r.ended;
         t = counted(t, holds(plain, false, record::first(room, r.length)));
         t = counted(t, holds(ended, true, record::first(room, r.length)));
-        turns -= 1;
     }
     t
 }

@@ -9,55 +9,47 @@ pub(crate) struct Told {
     pub(crate) sum: u64,
 }
 
-// Whether there is a record, its text's length, and both answers.
+// A record: its text's length, and both answers.
 #[derive(Clone, Copy)]
 pub(crate) struct Record {
-    pub(crate) there: bool,
     pub(crate) length: usize,
     pub(crate) plain: Told,
     pub(crate) ended: Told,
-}
-
-fn wide(x: u8) -> u64
-    ensures { result < 256 }
-{
-    x as u64
 }
 
 // The byte at i, or 0.
 fn byte(b: &[u8], i: usize) -> u64
     ensures { result < 256 }
 {
-    if i < b.len() { wide(b[i]) } else { 0 }
+    if i < b.len() { u64::from(b[i]) } else { 0 }
 }
 
 // The number of four bytes, lowest first.
 fn word(b: &[u8], at: usize) -> u64
     ensures { result < 2 ^ 32 }
 {
-    let b1 = byte(b, std::num::wrapping_add_usize(at, 1));
-    let b2 = byte(b, std::num::wrapping_add_usize(at, 2));
-    let b3 = byte(b, std::num::wrapping_add_usize(at, 3));
+    let b1 = byte(b, at.wrapping_add(1));
+    let b2 = byte(b, at.wrapping_add(2));
+    let b3 = byte(b, at.wrapping_add(3));
     byte(b, at) + (b1 << 8) + (b2 << 16) + (b3 << 24)
 }
 
 // The answer from a place of these bytes on.
 fn told_at(b: &[u8], at: usize) -> Told {
-    let low = word(b, std::num::wrapping_add_usize(at, 8));
-    let high = word(b, std::num::wrapping_add_usize(at, 12));
+    let low = word(b, at.wrapping_add(8));
+    let high = word(b, at.wrapping_add(12));
     Told {
         refusal: word(b, at),
-        place: word(b, std::num::wrapping_add_usize(at, 4)),
+        place: word(b, at.wrapping_add(4)),
         sum: low + (high << 32),
     }
 }
 
-// The record of these bytes, if they are all there.
-fn record_of(b: &[u8; 36], there: bool) -> Record {
+// The record of these bytes.
+fn record_of(b: &[u8; 36]) -> Record {
     let plain = told_at(b, 4);
     let ended = told_at(b, 20);
     Record {
-        there: there,
         length: word(b, 0) as usize,
         plain: plain,
         ended: ended,
@@ -69,11 +61,13 @@ fn head_in(head: &mut [u8; 36]) -> usize {
     io::read_full(0, head)
 }
 
-// The next record of standard input, without its text.
-pub(crate) fn next() -> Record {
+// The next record of standard input, without its text, if all its bytes are there.
+pub(crate) fn next() -> Option<Record> {
     let mut head = [0u8; 36];
-    let n = head_in(&mut head);
-    record_of(&head, n == 36)
+    if head_in(&mut head) < 36 {
+        return None;
+    }
+    Some(record_of(&head))
 }
 
 // The next n bytes of standard input into the room; answers how many came.

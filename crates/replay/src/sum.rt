@@ -2,17 +2,9 @@
 use answer::{Counts, Verdict};
 use rooms::{AREA_WIDTH, FIXUP_WIDTH, SYMBOL_WIDTH};
 
-fn wide(x: u8) -> u64 {
-    x as u64
-}
-
-fn wide_word(x: u32) -> u64 {
-    x as u64
-}
-
 // One number more.
 fn mix(h: u64, x: u64) -> u64 {
-    std::num::wrapping_add_u64((h << 7) | (h >> 57), x)
+    h.rotate_left(7).wrapping_add(x)
 }
 
 // The place where a reading stopped; 0 if it finished.
@@ -59,15 +51,10 @@ pub(crate) fn fixup_numbers(n: usize) -> usize {
 // The sum over the first n numbers of area rows, or all, but for the known bits: the Rust has none.
 pub(crate) fn area_words(rows: &[u32], n: usize, h: u64) -> u64 {
     let mut s = h;
-    let mut i = 0;
-    while i < n {
-        if rows.len() <= i {
-            return s;
-        }
+    for (i, x) in rows.iter().take(n).enumerate() {
         if i % 7 < 6 {
-            s = mix(s, wide_word(rows[i]));
+            s = mix(s, u64::from(*x));
         }
-        i += 1;
     }
     s
 }
@@ -75,13 +62,8 @@ pub(crate) fn area_words(rows: &[u32], n: usize, h: u64) -> u64 {
 // The sum over the first n numbers, or all.
 pub(crate) fn words(rows: &[u32], n: usize, h: u64) -> u64 {
     let mut s = h;
-    let mut i = 0;
-    while i < n {
-        if rows.len() <= i {
-            return s;
-        }
-        s = mix(s, wide_word(rows[i]));
-        i += 1;
+    for x in rows.iter().take(n) {
+        s = mix(s, u64::from(*x));
     }
     s
 }
@@ -89,13 +71,8 @@ pub(crate) fn words(rows: &[u32], n: usize, h: u64) -> u64 {
 // The sum over the first n bytes, or all.
 pub(crate) fn bytes(image: &[u8], n: usize, h: u64) -> u64 {
     let mut s = h;
-    let mut i = 0;
-    while i < n {
-        if image.len() <= i {
-            return s;
-        }
-        s = mix(s, wide(image[i]));
-        i += 1;
+    for x in image.iter().take(n) {
+        s = mix(s, u64::from(*x));
     }
     s
 }

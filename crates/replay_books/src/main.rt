@@ -4,12 +4,13 @@
 
 mod record;
 
-use book_find::Found;
-use book_open::Opened;
 use record::Case;
 
 // Room for a file and a name.
 const ROOM: usize = 327680;
+
+// More records than any sample has.
+const TURNS: u64 = 100000000;
 
 // How many answers were held to the recorded ones, and how many were not the same.
 #[derive(Clone, Copy)]
@@ -21,9 +22,9 @@ struct Tally {
 // Whether a name is found as recorded.
 fn same_found(book: &[u8], name: &[u8], c: Case) -> bool {
     match book_find::find_name(book, name) {
-        Found::Missing => c.missing == 23,
-        Found::At { place, size } => {
-            c.missing == 0 && place as u64 == c.at && size as u64 == c.size
+        None => c.missing == 23,
+        Some(found) => {
+            c.missing == 0 && u64::from(found.place) == c.at && u64::from(found.size) == c.size
         }
     }
 }
@@ -31,11 +32,9 @@ fn same_found(book: &[u8], name: &[u8], c: Case) -> bool {
 // Whether a file opens as recorded, and the name is found in it.
 fn opens(book: &[u8], name: &[u8], c: Case) -> bool {
     match book_open::open_book(book) {
-        Opened::Refused { number, place } => {
-            number as u64 == c.number && place as u64 == c.place
-        }
-        Opened::Book { entries } => {
-            c.number == 0 && entries as u64 == c.place && same_found(book, name, c)
+        Err(why) => u64::from(why.number) == c.number && why.place as u64 == c.place,
+        Ok(entries) => {
+            c.number == 0 && u64::from(entries) == c.place && same_found(book, name, c)
         }
     }
 }
@@ -52,16 +51,9 @@ fn holds(bytes: &[u8], c: Case) -> bool {
 
 // One more answer.
 fn counted(t: Tally, same: bool) -> Tally {
-    let answers = std::num::wrapping_add_u64(t.answers, 1);
-    if same {
-        return Tally {
-            answers: answers,
-            differ: t.differ,
-        };
-    }
     Tally {
-        answers: answers,
-        differ: std::num::wrapping_add_u64(t.differ, 1),
+        answers: t.answers.wrapping_add(1),
+        differ: t.differ.wrapping_add(u64::from(!same)),
     }
 }
 
@@ -72,18 +64,14 @@ fn all(room: &mut [u8]) -> Tally {
         answers: 0,
         differ: 0,
     };
-    let mut turns: u64 = 100000000;
-    while 0 < turns {
-        let r = record::next();
-        if !r.there {
+    for _ in 0..TURNS {
+        let Some(r) = record::next() else {
             return t;
-        }
-        let c = r.case;
+        };
         if record::fill(room, r.length) < r.length {
             return counted(t, false);
         }
-        t = counted(t, holds(record::first(room, r.length), c));
-        turns -= 1;
+        t = counted(t, holds(record::first(room, r.length), r.case));
     }
     t
 }

@@ -12,10 +12,9 @@ pub(crate) struct Case {
     pub(crate) size: u64,
 }
 
-// Whether there is a record, the length of its file and its name together, and the answer.
+// A record: the length of its file and its name together, and the answer.
 #[derive(Clone, Copy)]
 pub(crate) struct Record {
-    pub(crate) there: bool,
     pub(crate) length: usize,
     pub(crate) case: Case,
 }
@@ -60,13 +59,11 @@ fn case_of(b: &[u8]) -> Case {
     }
 }
 
-// The record of these bytes, if they are all there.
-fn record_of(b: &[u8; 28], there: bool) -> Record {
-    let c = case_of(b);
+// The record of these bytes.
+fn record_of(b: &[u8]) -> Record {
     Record {
-        there: there,
         length: count(b, 0),
-        case: c,
+        case: case_of(b),
     }
 }
 
@@ -75,11 +72,13 @@ fn head_in(head: &mut [u8; 28]) -> usize {
     io::read_full(0, head)
 }
 
-// The next record of standard input, without its bytes.
-pub(crate) fn next() -> Record {
+// The next record of standard input, without its bytes; none at the end.
+pub(crate) fn next() -> Option<Record> {
     let mut head = [0u8; 28];
-    let n = head_in(&mut head);
-    record_of(&head, n == 28)
+    if head_in(&mut head) < 28 {
+        return None;
+    }
+    Some(record_of(&head))
 }
 
 // The next n bytes of standard input into the room; answers how many came.

@@ -2,7 +2,7 @@
 // radix and order, whole, cut, without a line end and refused; standard input of `convert` holds only one.
 #![tactic(auto)]
 
-use console::{Input, Room};
+use console::Room;
 use convert_answer::Converted;
 use convert_module::convert;
 use host::Host;
@@ -52,17 +52,15 @@ fn show_argument(rt: &impl Host, i: usize) {
     io::write_all(host::STDOUT_FILENO, b":\n");
     let mut room = [0u8; INPUT_ROOM];
     match argument_text::fetch(rt, i, &mut room) {
-        Input::Failed(_) => {}
-        Input::Text(n) => show_first(&room, n),
+        Err(_) => {}
+        Ok(n) => show_first(&room, n),
     }
 }
 
 // The same of all arguments.
 fn show_all(rt: &impl Host, count: usize) {
-    let mut i = 1;
-    while i < count {
+    for i in 1..count {
         show_argument(rt, i);
-        i += 1;
     }
 }
 

@@ -53,7 +53,7 @@ fn holds(text: &[u8], c: Case) -> bool {
     if e == 0 {
         return false;
     }
-    let head = std::num::wrapping_add_usize(next, e);
+    let head = next.wrapping_add(e);
     if !same_halt(text, head, form, c) {
         return false;
     }
@@ -62,16 +62,9 @@ fn holds(text: &[u8], c: Case) -> bool {
 
 // One more answer.
 fn counted(t: Tally, same: bool) -> Tally {
-    let answers = std::num::wrapping_add_u64(t.answers, 1);
-    if same {
-        return Tally {
-            answers: answers,
-            differ: t.differ,
-        };
-    }
     Tally {
-        answers: answers,
-        differ: std::num::wrapping_add_u64(t.differ, 1),
+        answers: t.answers.wrapping_add(1),
+        differ: t.differ.wrapping_add(u64::from(!same)),
     }
 }
 
@@ -82,18 +75,15 @@ fn all(room: &mut [u8]) -> Tally {
         answers: 0,
         differ: 0,
     };
-    let mut turns: u64 = 100000000;
-    while 0 < turns {
-        let r = record::next();
-        if !r.there {
+    for _ in 0..100000000 {
+        let Some(r) = record::next() else {
             return t;
-        }
+        };
         let c = r.case;
         if record::fill(room, r.length) < r.length {
             return counted(t, false);
         }
         t = counted(t, holds(record::first(room, r.length), c));
-        turns -= 1;
     }
     t
 }

@@ -12,34 +12,27 @@ pub(crate) struct Case {
     pub(crate) counts: u64,
 }
 
-// Whether there is a record, its text's length, and the answer.
+// A record: its text's length, and the answer.
 #[derive(Clone, Copy)]
 pub(crate) struct Record {
-    pub(crate) there: bool,
     pub(crate) length: usize,
     pub(crate) case: Case,
-}
-
-fn wide(x: u8) -> u64
-    ensures { result < 256 }
-{
-    x as u64
 }
 
 // The byte at i, or 0.
 fn byte(b: &[u8], i: usize) -> u64
     ensures { result < 256 }
 {
-    if i < b.len() { wide(b[i]) } else { 0 }
+    if i < b.len() { u64::from(b[i]) } else { 0 }
 }
 
 // The number of four bytes, lowest first.
 fn word(b: &[u8], at: usize) -> u64
     ensures { result < 2 ^ 32 }
 {
-    let b1 = byte(b, std::num::wrapping_add_usize(at, 1));
-    let b2 = byte(b, std::num::wrapping_add_usize(at, 2));
-    let b3 = byte(b, std::num::wrapping_add_usize(at, 3));
+    let b1 = byte(b, at.wrapping_add(1));
+    let b2 = byte(b, at.wrapping_add(2));
+    let b3 = byte(b, at.wrapping_add(3));
     byte(b, at) + (b1 << 8) + (b2 << 16) + (b3 << 24)
 }
 
@@ -60,11 +53,10 @@ fn case_of(b: &[u8]) -> Case {
     }
 }
 
-// The record of these bytes, if they are all there.
-fn record_of(b: &[u8; 28], there: bool) -> Record {
+// The record of these bytes.
+fn record_of(b: &[u8; 28]) -> Record {
     let c = case_of(b);
     Record {
-        there: there,
         length: count(b, 0),
         case: c,
     }
@@ -75,11 +67,13 @@ fn head_in(head: &mut [u8; 28]) -> usize {
     io::read_full(0, head)
 }
 
-// The next record of standard input, without its text.
-pub(crate) fn next() -> Record {
+// The next record of standard input, without its text, if all its bytes are there.
+pub(crate) fn next() -> Option<Record> {
     let mut head = [0u8; 28];
-    let n = head_in(&mut head);
-    record_of(&head, n == 28)
+    if head_in(&mut head) < 28 {
+        return None;
+    }
+    Some(record_of(&head))
 }
 
 // The next n bytes of standard input into the room; answers how many came.

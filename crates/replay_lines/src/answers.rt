@@ -1,25 +1,12 @@
 // The port's answers about a text, in the sample's numbers: the probe's rows, with a name, content or fragments as one sum.
 use crate::Answer;
-use crate::sums::{content_sum, fragment_sum, name_sum};
+use crate::sums::{byte_sum, fragment_sum};
 use probe_line::Row;
-
-// A text that is not read.
-fn none() -> Answer {
-    Answer {
-        taken: 0,
-        used: 0,
-        first: 0,
-        second: 0,
-        third: 0,
-        fourth: 0,
-        fifth: 0,
-    }
-}
 
 // A row with up to three values, of which a sum may be the third.
 fn of_row(r: Row, sum: u64) -> Answer {
     if r.reason != 0 {
-        return none();
+        return Answer::default();
     }
     Answer {
         taken: 1,
@@ -40,7 +27,7 @@ fn marks(flags: u64, given: u64) -> u64 {
 // A line of group one: its name's length and sum, then size, marks and addr of an area, or whether a symbol is outside and its value.
 fn of_entry(t: &[u8], r: Row) -> Answer {
     if r.reason != 0 {
-        return none();
+        return Answer::default();
     }
     let fourth = if r.kind == 2 {
         marks(r.second, r.third)
@@ -51,9 +38,9 @@ fn of_entry(t: &[u8], r: Row) -> Answer {
         taken: 1,
         used: r.place,
         first: r.length,
-        second: name_sum(t, r.name as usize, r.length as usize),
+        second: byte_sum(t, r.name as usize, r.length as usize),
         third: r.first,
-        fourth: fourth,
+        fourth,
         fifth: r.fourth,
     }
 }
@@ -66,7 +53,7 @@ fn of_content(t: &[u8], radix: u8, big: bool, width: u8, whole: bool) -> Answer 
     } else {
         probe_line::probe_content(t, radix, big, width, &mut bytes)
     };
-    of_row(r, content_sum(&bytes, r.second as usize))
+    of_row(r, byte_sum(&bytes, 0, r.second as usize))
 }
 
 // An R line: its area's index, the count of its fragments and their sum.

@@ -3,11 +3,11 @@ ghost use Rattle.std.specs.Prelude.{◌≤◌};
 
 use crate::answers::answer;
 use crate::{Answer, Counts};
-use numbers::Num;
+use numbers::Parsed;
 use scan::Kind;
 
 // A number of a case behind blanks, or the place where there is none.
-fn number_at(t: &[u8], at: usize) -> Num {
+fn number_at(t: &[u8], at: usize) -> Parsed<u32> {
     let a = scan::past_kind(t, at, Kind::Blank);
     quick_numbers::parse_number(t, a, 16)
 }
@@ -15,44 +15,27 @@ fn number_at(t: &[u8], at: usize) -> Num {
 // The eleven numbers of a case into what was lent, and the place behind them; or the length where they are not there.
 fn numbers(t: &[u8], out: &mut [u32; 11]) -> usize {
     let mut p = 0;
-    let mut i = 0;
-    while i < 11 {
-        let Num::Is { value, next } = number_at(t, p) else {
+    for slot in out.iter_mut() {
+        let Ok(read) = number_at(t, p) else {
             return t.len();
         };
-        out[i] = value;
-        p = next;
-        i += 1;
+        *slot = read.value;
+        p = read.next;
     }
     p
 }
 
-// Whether a value is the recorded one.
-fn equal(x: u64, y: u32) -> bool {
-    x == y as u64
-}
-
-// Whether an answer is the recorded one.
-fn same(a: Answer, n: &[u32; 11]) -> bool {
-    if !equal(a.taken, n[4]) {
-        return false;
+// The recorded answer among a case's numbers.
+fn recorded(n: &[u32; 11]) -> Answer {
+    Answer {
+        taken: u64::from(n[4]),
+        used: u64::from(n[5]),
+        first: u64::from(n[6]),
+        second: u64::from(n[7]),
+        third: u64::from(n[8]),
+        fourth: u64::from(n[9]),
+        fifth: u64::from(n[10]),
     }
-    if !equal(a.used, n[5]) {
-        return false;
-    }
-    if !equal(a.first, n[6]) {
-        return false;
-    }
-    if !equal(a.second, n[7]) {
-        return false;
-    }
-    if !equal(a.third, n[8]) {
-        return false;
-    }
-    if !equal(a.fourth, n[9]) {
-        return false;
-    }
-    equal(a.fifth, n[10])
 }
 
 // A number of a case that is below 256.
@@ -64,16 +47,8 @@ fn small(n: u32) -> u8 {
 fn answered(n: &[u32; 11], bytes: &[u8], count: usize) -> Answer {
     let radix = small(n[1]);
     let width = small(n[3]);
-    let from = 0;
-    if count <= bytes.len() {
-        return answer(n[0], &bytes[from..count], radix, n[2] == 1, width);
-    }
-    answer(n[0], bytes, radix, n[2] == 1, width)
-}
-
-// The same about an array.
-fn answered_in(n: &[u32; 11], bytes: &[u8; 256], count: usize) -> Answer {
-    answered(n, bytes, count)
+    let read = bytes.get(..count).unwrap_or(bytes);
+    answer(n[0], read, radix, n[2] == 1, width)
 }
 
 // Whether the port answers a case as the Rust does.
@@ -82,17 +57,14 @@ fn agrees(t: &[u8]) -> bool {
     let p = numbers(t, &mut n);
     let mut bytes = [0u8; 256];
     let run = lists::parse_byte_many(t, p, 16, &mut bytes);
-    if run.end != t.len() {
-        return false;
-    }
-    same(answered_in(&n, &bytes, run.count), &n)
+    run.end == t.len() && answered(&n, &bytes, run.count) == recorded(&n)
 }
 
 // 1 where a case differs, else 0.
 fn differs(t: &[u8]) -> usize
     ensures { result ≤ 1 }
 {
-    if agrees(t) { 0 } else { 1 }
+    usize::from(!agrees(t))
 }
 
 // Every line of the sample is a case.
@@ -106,7 +78,7 @@ pub(crate) fn replay(t: &[u8]) -> Counts {
         let next = l.next;
         if next <= p {
             return Counts {
-                cases: cases,
+                cases,
                 differ: differ + 1,
             };
         }
@@ -114,8 +86,5 @@ pub(crate) fn replay(t: &[u8]) -> Counts {
         cases += 1;
         p = next;
     }
-    Counts {
-        cases: cases,
-        differ: differ,
-    }
+    Counts { cases, differ }
 }

@@ -10,8 +10,8 @@ mod sums;
 
 use rooms::{INPUT_ROOM, TEXT_ROOM};
 
-// Whether a text is read, the bytes used, and five values.
-#[derive(Clone, Copy)]
+// Whether a text is read, the bytes used, and five values; all 0 where it is not read.
+#[derive(Clone, Copy, Default, PartialEq, Eq)]
 pub struct Answer {
     pub taken: u64,
     pub used: u64,

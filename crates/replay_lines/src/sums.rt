@@ -5,44 +5,12 @@ fn mixed(sum: u64, x: u64) -> u64 {
     ((sum % 65521) * 31 + x % 4294967296) % 65521
 }
 
-// A byte as a number.
-fn wide(b: u8) -> u64 {
-    b as u64
-}
-
-// A number of 32 bits as one of 64.
-fn wider(x: u32) -> u64 {
-    x as u64
-}
-
-// The sum over so many bytes of a line from a place on.
-pub(crate) fn name_sum(t: &[u8], at: usize, len: usize) -> u64 {
-    let mut sum = 0;
-    let mut p = at;
-    let mut k = len;
-    while 0 < k {
-        if t.len() <= p {
-            return sum;
-        }
-        sum = mixed(sum, wide(t[p]));
-        p += 1;
-        k -= 1;
-    }
-    sum
-}
-
-// The sum over the content that was written.
-pub(crate) fn content_sum(bytes: &[u8; 256], count: usize) -> u64 {
-    let mut sum = 0;
-    let mut i = 0;
-    while i < 256 {
-        if count <= i {
-            return sum;
-        }
-        sum = mixed(sum, wide(bytes[i]));
-        i += 1;
-    }
-    sum
+// The sum over so many bytes from a place on, or over those that are there.
+pub(crate) fn byte_sum(t: &[u8], at: usize, len: usize) -> u64 {
+    t.iter()
+        .skip(at)
+        .take(len)
+        .fold(0, |sum, b| mixed(sum, u64::from(*b)))
 }
 
 // The sum over the fragments that were written.
@@ -53,16 +21,10 @@ pub(crate) fn fragment_sum(
     count: usize,
 ) -> u64 {
     let mut sum = 0;
-    let mut i = 0;
-    while i < 64 {
-        if count <= i {
-            return sum;
+    for i in 0..count.min(64) {
+        for x in [modes[i], entries[i], indexes[i]] {
+            sum = mixed(sum, u64::from(x));
         }
-        sum = mixed(
-            mixed(mixed(sum, wider(modes[i])), wider(entries[i])),
-            wider(indexes[i]),
-        );
-        i += 1;
     }
     sum
 }

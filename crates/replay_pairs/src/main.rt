@@ -5,10 +5,10 @@
 mod record;
 mod sums;
 
+use answer::Refusal;
 use pair_rows::PairCounts;
-use pairs_answer::PairsAnswer;
 use record::Case;
-use rooms::INPUT_ROOM;
+use rooms::{INPUT_ROOM, PAIR_WIDTH};
 
 // One byte more than the longest text.
 const ROOM: usize = INPUT_ROOM;
@@ -28,15 +28,6 @@ fn same_counts(n: PairCounts, c: Case) -> bool {
         && n.fragments as u64 == c.fragments
 }
 
-// Three times so many, and seven times.
-fn three(n: usize) -> usize {
-    std::num::wrapping_add_usize(n, std::num::wrapping_add_usize(n, n))
-}
-
-fn seven(n: usize) -> usize {
-    std::num::wrapping_add_usize(n, std::num::wrapping_add_usize(three(n), three(n)))
-}
-
 // Whether the answer and the sum over all rows are the recorded ones.
 fn compare(
     text: &[u8],
@@ -45,25 +36,22 @@ fn compare(
     content: &mut [u8],
     fragments: &mut [u32],
 ) -> bool {
-    let r = records::read_pairs(text, pairs, content, fragments);
-    let PairsAnswer::Accepted { counts } = r else {
-        return refused(r, c);
+    let counts = match records::read_pairs(text, pairs, content, fragments) {
+        Ok(counts) => counts,
+        Err(refusal) => return refused(refusal, c),
     };
     if !same_counts(counts, c) {
         return false;
     }
-    let a = sums::of_numbers(pairs, seven(counts.pairs), 0);
+    let numbers = counts.pairs.wrapping_mul(PAIR_WIDTH);
+    let a = sums::of_numbers(pairs, numbers, 0);
     let b = sums::of_bytes(content, counts.content, a);
-    sums::of_numbers(fragments, three(counts.fragments), b) == c.sum
+    sums::of_numbers(fragments, counts.fragments.wrapping_mul(3), b) == c.sum
 }
 
 // Whether a refusal is the recorded one.
-fn refused(r: PairsAnswer, c: Case) -> bool {
-    match r {
-        PairsAnswer::Refusal { number, place } => number as u64 == c.number
-            && place as u64 == c.place,
-        PairsAnswer::Accepted { counts: _ } => false,
-    }
+fn refused(refusal: Refusal, c: Case) -> bool {
+    refusal.number as u64 == c.number && refusal.place as u64 == c.place
 }
 
 // The same with buffers of their bounds.
@@ -76,16 +64,9 @@ fn holds(text: &[u8], c: Case) -> bool {
 
 // One more answer.
 fn counted(t: Tally, same: bool) -> Tally {
-    let answers = std::num::wrapping_add_u64(t.answers, 1);
-    if same {
-        return Tally {
-            answers: answers,
-            differ: t.differ,
-        };
-    }
     Tally {
-        answers: answers,
-        differ: std::num::wrapping_add_u64(t.differ, 1),
+        answers: t.answers.wrapping_add(1),
+        differ: t.differ.wrapping_add(u64::from(!same)),
     }
 }
 
@@ -96,18 +77,15 @@ fn all(room: &mut [u8]) -> Tally {
         answers: 0,
         differ: 0,
     };
-    let mut turns: u64 = 100000000;
-    while 0 < turns {
-        let r = record::next();
-        if !r.there {
+    for _ in 0..100000000 {
+        let Some(r) = record::next() else {
             return t;
-        }
+        };
         let c = r.case;
         if record::fill(room, r.length) < r.length {
             return counted(t, false);
         }
         t = counted(t, holds(record::first(room, r.length), c));
-        turns -= 1;
     }
     t
 }

@@ -8,10 +8,8 @@ fn step(sum: u64, v: u32) -> u64 {
 // The first n numbers.
 pub(crate) fn of_numbers(rows: &[u32], n: usize, start: u64) -> u64 {
     let mut sum = start;
-    let mut i = 0;
-    while i < n {
+    for i in 0..n {
         sum = step(sum, cells::at(rows, i));
-        i += 1;
     }
     sum
 }
@@ -19,10 +17,8 @@ pub(crate) fn of_numbers(rows: &[u32], n: usize, start: u64) -> u64 {
 // The first n bytes.
 pub(crate) fn of_bytes(bytes: &[u8], n: usize, start: u64) -> u64 {
     let mut sum = start;
-    let mut i = 0;
-    while i < n {
+    for i in 0..n {
         sum = step(sum, cells::byte_at(bytes, i) as u32);
-        i += 1;
     }
     sum
 }

@@ -1,27 +1,20 @@
 // Numbers in hex at fixed places of a line.
-ghost use Rattle.std.specs.Prelude.{◌≡◌, ◌<◌, ◌≤◌};
+ghost use Rattle.std.specs.Prelude.{◌<◌, ◌≤◌};
 
 // The worth of a digit in capital hex; a byte that is none has some worth as well.
 fn worth(b: u8) -> u64
     ensures { result < 16 }
 {
     if b <= b'9' {
-        wide(b % 16)
+        u64::from(b % 16)
     } else {
-        wide((b % 16 + 9) % 16)
+        u64::from((b % 16 + 9) % 16)
     }
-}
-
-// A digit as a number to count with.
-fn wide(x: u8) -> u64
-    ensures { result ≡ x }
-{
-    x as u64
 }
 
 // A line's byte, or 0 past its end.
 pub(crate) fn at(line: &[u8], i: usize) -> u8 {
-    if i < line.len() { line[i] } else { 0 }
+    line.get(i).copied().unwrap_or(0)
 }
 
 // The number that n digits from a place on write, its low 64 bits.
@@ -29,10 +22,8 @@ pub(crate) fn number(line: &[u8], from: usize, n: usize) -> u64
     requires { (from ≤ 100) × (n ≤ 16) }
 {
     let mut v: u64 = 0;
-    let mut i: usize = 0;
-    while i < n {
-        v = std::num::wrapping_add_u64(v << 4, worth(at(line, from + i)));
-        i += 1;
+    for i in 0..n {
+        v = (v << 4).wrapping_add(worth(at(line, from + i)));
     }
     v
 }

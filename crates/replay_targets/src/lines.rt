@@ -2,9 +2,7 @@
 ghost use Rattle.std.specs.Prelude.{◌≤◌};
 
 use crate::hex::{at, byte, four, number, short};
-use mode::{Jump, JumpType};
-use mode_step::Step;
-use target_asked::Answer;
+use mode::{class_number, get_jump_type};
 
 // 1 if the port's answer differs, and how many bytes the line has.
 #[derive(Clone, Copy)]
@@ -20,28 +18,16 @@ fn unless(same: bool) -> u64
     if same { 0 } else { 1 }
 }
 
-// The number of a class, as the sample has it.
-fn class_number(class: JumpType) -> u64 {
-    match class {
-        JumpType::Addr19 => 0,
-        JumpType::Addr11 => 1,
-        JumpType::Addr24 => 2,
-        JumpType::Addr16 => 3,
-        JumpType::Byte => 4,
-        JumpType::Other => 5,
-    }
-}
-
 // C MODE CLASS SIZE
 fn class_line(line: &[u8]) -> u64
     ensures { result ≤ 1 }
 {
     let mode = (number(line, 2, 3) % 0x1_0000) as u16;
-    let Jump::Of(class) = mode::get_jump_type(mode) else {
+    let Some(class) = get_jump_type(mode) else {
         return 1;
     };
     let size = class_rows::get_onsite_size(class) as u64;
-    unless(class_number(class) == number(line, 6, 1) && size == number(line, 8, 1))
+    unless(u64::from(class_number(class)) == number(line, 6, 1) && size == number(line, 8, 1))
 }
 
 // S MODE ORDER VALUES MASKS KEPT NUMBER VALUES MASKS KEPT
@@ -63,7 +49,7 @@ fn step_line(line: &[u8]) -> u64
         &mut masks,
         &mut kept,
     );
-    let Step::Number(made) = step else {
+    let Some(made) = step else {
         return 1;
     };
     unless(
@@ -82,7 +68,7 @@ fn target_line(line: &[u8]) -> u64
     let big = number(line, 6, 1) == 1;
     let bytes = [byte(line, 32), byte(line, 34), byte(line, 36)];
     let answer = target::target(mode, big, short(line, 8, 6), number(line, 15, 16), &bytes);
-    let Answer::At(address) = answer else {
+    let Ok(address) = answer else {
         return 1;
     };
     unless(address == number(line, 39, 16))

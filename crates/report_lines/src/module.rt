@@ -1,137 +1,140 @@
 // What a report says of one module's text.
+use crate::form::{Form, Image, Own};
 use answer::Counts;
 use counts_of::Counted;
 use coverage::Covered;
-use ended_answer::Verdict;
-use figures::Classes;
+use ended_answer::{Answer, Verdict};
 use rooms::{AREA_ROOM, FIXUP_ROOM, IMAGE_ROOM, SYMBOL_ROOM};
-use totals::{Figures, Totals};
+use totals::Figures;
 
-// A refusal; or the module's own totals, with its verdict and the H line's word.
+// The number and the place of a refusal.
 #[derive(Clone, Copy)]
-pub(crate) enum Said {
-    Refused {
-        number: u32,
-        place: usize,
-    },
-    Read {
-        own: Totals,
-        verdict: Verdict,
-        counted: Counted,
-    },
+pub(crate) struct Refused {
+    pub(crate) number: u32,
+    pub(crate) place: usize,
 }
 
-// Whether no byte is left.
-fn is_finished(verdict: Verdict) -> bool {
-    match verdict {
-        Verdict::Finished => true,
-        _ => false,
-    }
+// A module that is read, and what is told of its positions.
+#[derive(Clone, Copy)]
+pub(crate) struct Read<P> {
+    pub(crate) own: Own,
+    pub(crate) positions: P,
 }
 
-// Whether the H line tells other counts.
-fn is_unequal(counted: Counted) -> bool {
-    match counted {
-        Counted::NotEqual => true,
-        _ => false,
-    }
-}
-
-// A count as a number of 64 bits.
-fn long(n: usize) -> u64 {
-    n as u64
+// How many positions there are, how many no line writes, and what is told of them.
+#[derive(Clone, Copy)]
+struct Mapped<P> {
+    count: usize,
+    unwritten: usize,
+    positions: P,
 }
 
 // The figures of a module that is read.
 fn figures_of(counts: Counts, known: u64, positions: usize, unwritten: usize) -> Figures {
     Figures {
-        kept: long(counts.kept),
-        positions: long(positions),
-        unwritten: long(unwritten),
+        kept: counts.kept as u64,
+        positions: positions as u64,
+        unwritten: unwritten as u64,
         known: known,
-        fixups: long(counts.fixups),
+        fixups: counts.fixups as u64,
     }
 }
 
-// What no line of a text writes.
-fn cover(text: &[u8]) -> Covered {
-    let mut map = [0u8; IMAGE_ROOM];
-    cover_in(text, &mut map)
-}
-
-// The same with the room for a map.
-fn cover_in(text: &[u8], map: &mut [u8; IMAGE_ROOM]) -> Covered {
-    coverage::cover(text, map)
-}
-
-// A module that is read, with its fixups by class and its known bits.
-fn accepted(
+// The positions of a text, with their masks and the room for a map.
+fn map_in<F: Form>(
     text: &[u8],
-    counts: Counts,
-    verdict: Verdict,
-    counted: Counted,
-    classes: Classes,
-    known: u64,
-) -> Said {
-    match cover(text) {
-        Covered::Refused { number, place } => Said::Refused {
+    masks: &Image,
+    map: &mut Image,
+) -> Result<Mapped<F::Positions>, Refused> {
+    match coverage::cover(text, map) {
+        Covered::Refused { number, place } => Err(Refused {
             number: number,
             place: place,
-        },
+        }),
         Covered::Told {
             positions,
             unwritten,
-        } => {
-            let f = figures_of(counts, known, positions, unwritten);
-            let own = totals::module(f, classes, is_finished(verdict), is_unequal(counted));
-            Said::Read {
-                own: own,
-                verdict: verdict,
-                counted: counted,
-            }
-        }
+        } => Ok(Mapped {
+            count: positions,
+            unwritten: unwritten,
+            positions: F::positions(masks, map, positions),
+        }),
     }
 }
 
-// A text, with the buffers of a reading.
-fn say_in(
+// The same with a map of its own.
+fn map_of<F: Form>(text: &[u8], masks: &Image) -> Result<Mapped<F::Positions>, Refused> {
+    let mut map = empty_image();
+    map_in::<F>(text, masks, &mut map)
+}
+
+// A module that the reading takes, with its masks, areas and fixups.
+fn accepted<F: Form>(
     text: &[u8],
-    areas: &mut [u32; AREA_ROOM],
-    symbols: &mut [u32; SYMBOL_ROOM],
-    values: &mut [u8; IMAGE_ROOM],
-    masks: &mut [u8; IMAGE_ROOM],
-    fixups: &mut [u32; FIXUP_ROOM],
-) -> Said {
-    match ended::read_ended(text, areas, symbols, values, masks, fixups) {
-        ended_answer::Answer::Refusal { number, place } => Said::Refused {
-            number: number,
-            place: place,
+    masks: &Image,
+    areas: &[u32; AREA_ROOM],
+    fixups: &[u32; FIXUP_ROOM],
+    counts: Counts,
+    verdict: Verdict,
+    counted: Counted,
+) -> Result<Read<F::Positions>, Refused> {
+    let mapped = map_of::<F>(text, masks)?;
+    let known = figures::known_in(areas, counts.areas);
+    let f = figures_of(counts, known, mapped.count, mapped.unwritten);
+    let classes = figures::classes_in(fixups, counts.fixups);
+    let finished = matches!(verdict, Verdict::Finished);
+    let unequal = matches!(counted, Counted::NotEqual);
+    Ok(Read {
+        own: Own {
+            totals: totals::module(f, classes, finished, unequal),
+            verdict: verdict,
+            counted: counted,
         },
-        ended_answer::Answer::Accepted {
-            counts,
-            verdict,
-            counted,
-        } => {
-            let classes = figures::classes_in(fixups, counts.fixups);
-            let known = figures::known_in(areas, counts.areas);
-            accepted(text, counts, verdict, counted, classes, known)
-        }
-    }
+        positions: mapped.positions,
+    })
+}
+
+// Rooms of zeros, each made by itself, so that no proof has them in sight.
+fn empty_image() -> Image {
+    [0; IMAGE_ROOM]
+}
+
+fn empty_areas() -> [u32; AREA_ROOM] {
+    [0; AREA_ROOM]
+}
+
+fn empty_symbols() -> [u32; SYMBOL_ROOM] {
+    [0; SYMBOL_ROOM]
+}
+
+fn empty_fixups() -> [u32; FIXUP_ROOM] {
+    [0; FIXUP_ROOM]
 }
 
 // What is said of a text.
-pub(crate) fn say(text: &[u8]) -> Said {
-    let mut areas = [0u32; AREA_ROOM];
-    let mut symbols = [0u32; SYMBOL_ROOM];
-    let mut values = [0u8; IMAGE_ROOM];
-    let mut masks = [0u8; IMAGE_ROOM];
-    let mut fixups = [0u32; FIXUP_ROOM];
-    say_in(
+pub(crate) fn say<F: Form>(text: &[u8]) -> Result<Read<F::Positions>, Refused> {
+    let mut areas = empty_areas();
+    let mut symbols = empty_symbols();
+    let mut values = empty_image();
+    let mut masks = empty_image();
+    let mut fixups = empty_fixups();
+    let answer = ended::read_ended(
         text,
         &mut areas,
         &mut symbols,
         &mut values,
         &mut masks,
         &mut fixups,
-    )
+    );
+    match answer {
+        Answer::Refusal { number, place } => Err(Refused {
+            number: number,
+            place: place,
+        }),
+        Answer::Accepted {
+            counts,
+            verdict,
+            counted,
+        } => accepted::<F>(text, &masks, &areas, &fixups, counts, verdict, counted),
+    }
 }

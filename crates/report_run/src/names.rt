@@ -1,9 +1,10 @@
 // The names, one after the other.
 use host::{Failure, Host};
 use name_lines::{Block, Cursor, Line, Name};
-use report_lines::Tally;
+use report_lines::{Lines, Tally};
 use sink::{Buffer, Sink};
 use std::io::Read;
+use std::ops::ControlFlow;
 use totals::Totals;
 
 // What waits to be written and the totals, where the input is, how many names were taken, whether each has a second line, and whether a page is asked for.
@@ -17,11 +18,7 @@ struct Going {
 }
 
 // How it goes on: with the next line, or not.
-#[derive(Clone, Copy)]
-enum Turn {
-    On(Going),
-    Done(Tally),
-}
+type Turn = ControlFlow<Tally, Going>;
 
 // What is written of one file: a line, or a row of the page.
 fn told(
@@ -36,7 +33,7 @@ fn told(
     if page {
         return page_file::page_file(rt, s, out, t, file, shown);
     }
-    report_lines::report_file(rt, s, out, t, file, shown)
+    report_lines::report_file::<Lines>(rt, s, out, t, file, shown)
 }
 
 // One name more, shown under its own or another one, unless there are too many.
@@ -48,19 +45,16 @@ fn one(
     shown: &[u8],
     next: Cursor,
 ) -> Turn {
-    let tally = g.tally;
-    let s = tally.sink;
-    let t = tally.totals;
-    let names = g.names;
-    if !totals::takes_more(names) {
-        return Turn::Done(too_many(g.page, s, t, out));
+    let s = g.tally.sink;
+    let t = g.tally.totals;
+    if !totals::takes_more(g.names) {
+        return ControlFlow::Break(too_many(g.page, s, t, out));
     }
-    Turn::On(Going {
+    ControlFlow::Continue(Going {
         tally: told(rt, g.page, s, out, t, file, shown),
         cursor: next,
-        names: std::num::wrapping_add_u64(names, 1),
-        pairs: g.pairs,
-        page: g.page,
+        names: g.names + 1,
+        ..g
     })
 }
 
@@ -81,30 +75,7 @@ fn over(page: bool, s: Sink, out: &mut Buffer) -> Sink {
     report_lines::over(s, out)
 }
 
-// How a name begins that is longer than a file's name can be.
-fn begins(shown: &mut [u8], name: &[u8]) {
-    cells::copy_bytes(shown, 0, name, 60);
-    cells::copy_bytes(shown, 60, b"..", 2);
-}
-
-// The same in an array.
-fn begins_in(shown: &mut [u8; 62], name: &Name) {
-    begins(shown, name)
-}
-
-// A file, shown under what an array holds.
-fn one_begun(
-    rt: &impl Host,
-    g: Going,
-    out: &mut Buffer,
-    file: &[u8],
-    shown: &[u8; 62],
-    next: Cursor,
-) -> Turn {
-    one(rt, g, out, file, shown, next)
-}
-
-// A file, shown under a name that is too long.
+// A file, shown under how a name begins that is longer than a file's name can be.
 fn long(
     rt: &impl Host,
     g: Going,
@@ -113,27 +84,14 @@ fn long(
     name: &Name,
     next: Cursor,
 ) -> Turn {
-    let mut shown = [0u8; 62];
-    begins_in(&mut shown, name);
-    one_begun(rt, g, out, file, &shown, next)
+    let mut shown = [b'.'; 62];
+    shown[..60].copy_from_slice(&name[..60]);
+    one(rt, g, out, file, &shown, next)
 }
 
 // A file whose name is too long.
 fn long_name(rt: &impl Host, g: Going, out: &mut Buffer, name: &Name, next: Cursor) -> Turn {
     long(rt, g, out, name, name, next)
-}
-
-// The first n bytes of a second line.
-fn one_as(
-    rt: &impl Host,
-    g: Going,
-    out: &mut Buffer,
-    file: &[u8],
-    shown: &Name,
-    n: usize,
-    next: Cursor,
-) -> Turn {
-    one(rt, g, out, file, sink::first_bytes(shown, n), next)
 }
 
 // Standard input cannot be read, which the page tells too.
@@ -161,14 +119,13 @@ fn second(
 ) -> Turn {
     let mut shown = [0u8; 4096];
     match name_lines::next_line(reader, block, &mut shown, next) {
-        Line::Name { length, next } => one_as(rt, g, out, file, &shown, length, next),
+        Line::Name { length, next } => {
+            one(rt, g, out, file, sink::first_bytes(&shown, length), next)
+        }
         Line::Long { next } => long(rt, g, out, file, &shown, next),
         Line::Empty { next } => one(rt, g, out, file, file, next),
         Line::End => one(rt, g, out, file, file, next),
-        Line::Failed(why) => {
-            let tally = g.tally;
-            Turn::Done(failed(g.page, tally, out, why))
-        }
+        Line::Failed(why) => ControlFlow::Break(failed(g.page, g.tally, out, why)),
     }
 }
 
@@ -199,23 +156,15 @@ fn next_turn(
     block: &mut Block,
     name: &mut Name,
 ) -> Turn {
-    let tally = g.tally;
-    let cursor = g.cursor;
-    if tally.sink.broken {
-        return Turn::Done(tally);
+    if g.tally.sink.broken {
+        return ControlFlow::Break(g.tally);
     }
-    match name_lines::next_line(reader, block, name, cursor) {
+    match name_lines::next_line(reader, block, name, g.cursor) {
         Line::Name { length, next } => file_of(rt, reader, g, out, block, name, length, next),
         Line::Long { next } => long_name(rt, g, out, name, next),
-        Line::Empty { next } => Turn::On(Going {
-            tally: tally,
-            cursor: next,
-            names: g.names,
-            pairs: g.pairs,
-            page: g.page,
-        }),
-        Line::End => Turn::Done(tally),
-        Line::Failed(why) => Turn::Done(failed(g.page, tally, out, why)),
+        Line::Empty { next } => ControlFlow::Continue(Going { cursor: next, ..g }),
+        Line::End => ControlFlow::Break(g.tally),
+        Line::Failed(why) => ControlFlow::Break(failed(g.page, g.tally, out, why)),
     }
 }
 
@@ -228,18 +177,12 @@ fn all(
     block: &mut Block,
     name: &mut Name,
 ) -> Tally {
-    let mut turns = u64::MAX;
     let mut now = g;
-    while 0 < turns {
+    for _ in 0..u64::MAX {
         match next_turn(rt, reader, now, out, block, name) {
-            Turn::On(next) => {
-                now = next;
-            }
-            Turn::Done(tally) => {
-                return tally;
-            }
+            ControlFlow::Continue(next) => now = next,
+            ControlFlow::Break(tally) => return tally,
         }
-        turns -= 1;
     }
     now.tally
 }

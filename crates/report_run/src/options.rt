@@ -22,49 +22,34 @@ enum Word {
     Unknown,
 }
 
-// What the first n bytes of a room are.
-fn word_of(room: &[u8; 8], n: usize) -> Word {
-    let word = sink::first_bytes(room, n);
-    if help_word::asks_help(word) {
-        return Word::Help;
+// What a word is.
+fn word_of(word: &[u8]) -> Word {
+    match word {
+        b"--named" => Word::Pairs,
+        b"--page" => Word::Page,
+        _ if help_word::asks_help(word) => Word::Help,
+        _ => Word::Unknown,
     }
-    if alike::same_name(word, b"--named") {
-        return Word::Pairs;
-    }
-    if alike::same_name(word, b"--page") {
-        return Word::Page;
-    }
-    Word::Unknown
 }
 
 // What an argument is.
 fn word_at(rt: &impl Env, i: usize) -> Word {
     let mut room = [0u8; 8];
     let n = host::argument_or_none(rt, i, &mut room);
-    word_of(&room, n)
+    word_of(&room[..n])
 }
 
 // What the arguments ask for: the first that is not known, or that asks for help, decides.
 fn asked(rt: &impl Env, count: usize) -> Request {
     let mut pairs = false;
     let mut page = false;
-    let mut i = 1;
-    while i < count {
+    for i in 1..count {
         match word_at(rt, i) {
-            Word::Pairs => {
-                pairs = true;
-            }
-            Word::Page => {
-                page = true;
-            }
-            Word::Help => {
-                return Request::Help;
-            }
-            Word::Unknown => {
-                return Request::Unknown(i);
-            }
+            Word::Pairs => pairs = true,
+            Word::Page => page = true,
+            Word::Help => return Request::Help,
+            Word::Unknown => return Request::Unknown(i),
         }
-        i += 1;
     }
     Request::Work {
         pairs: pairs,

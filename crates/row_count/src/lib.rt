@@ -8,33 +8,26 @@ ghost use Rattle.row_count.specs.Count.{OneMore, CountedFor};
 use cells::{byte_at, wide};
 use references::Refers;
 
-// A refusal's number, or how many fixup rows there are.
-#[derive(Clone, Copy)]
-pub enum RowCount {
-    Refused(u32),
-    Rows(usize),
-}
-
 // One fixup more than k, for the i-th fragment: 12 if there is no number i of n, 13 if there are too many.
-pub fn one_more(i: usize, n: usize, k: usize) -> RowCount
+pub fn one_more(i: usize, n: usize, k: usize) -> Result<usize, u32>
     ensures { OneMore i n k result }
 {
     if n <= i {
-        return RowCount::Refused(12);
+        return Err(12);
     }
     if 1024 <= k {
-        return RowCount::Refused(13);
+        return Err(13);
     }
-    RowCount::Rows(k + 1)
+    Ok(k + 1)
 }
 
-// How many fixups there are behind the i-th fragment, with k before it.
-pub fn count_to(to: Refers, i: usize, n: usize, k: usize) -> RowCount
+// How many fixups there are behind the i-th fragment, with k before it; or a refusal's number.
+pub fn count_to(to: Refers, i: usize, n: usize, k: usize) -> Result<usize, u32>
     ensures { CountedFor to i n k result }
 {
     match to {
-        Refers::Missing => RowCount::Refused(11),
-        Refers::Nothing => RowCount::Rows(k),
+        Refers::Missing => Err(11),
+        Refers::Nothing => Ok(k),
         Refers::To(_) => one_more(i, n, k),
     }
 }

@@ -6,57 +6,40 @@ use cells::at;
 use rooms::{AREA_WIDTH, FIXUP_WIDTH, SYMBOL_WIDTH};
 
 // So many bytes from a place on, or an empty part where they do not fit.
+#[tactic(auto, unfolding(crate::specs::Parts::part_of))]
 pub fn part<'a>(s: &'a [u8], start: usize, len: usize) -> &'a [u8]
     ensures { result.now ≡ part_of s.now start len }
 {
-    if s.len() < start {
-        return &s[..0];
+    match s.get(start..) {
+        Some(rest) if len <= rest.len() => &rest[..len],
+        _ => &[],
     }
-    if s.len() - start < len {
-        return &s[..0];
-    }
-    let end = start + len;
-    &s[start..end]
+}
+
+// A number of row i of a table whose rows are so wide, or 0 past the end.
+pub fn row_cell(rows: &[u32], width: usize, i: usize, c: usize) -> u32
+    ensures { result ≡ get_or rows.now (width * i + c) 0 }
+{
+    at(rows, width.saturating_mul(i).saturating_add(c))
 }
 
 // A number of area i's row, or 0 past the end.
 pub fn area_cell(rows: &[u32], i: usize, c: usize) -> u32
     ensures { result ≡ get_or rows.now (7 * i + c) 0 }
 {
-    if rows.len() / 7 < i {
-        return 0;
-    }
-    let start = AREA_WIDTH * i;
-    if rows.len() - start <= c {
-        return 0;
-    }
-    at(rows, start + c)
+    row_cell(rows, AREA_WIDTH, i, c)
 }
 
 // A number of symbol i's row, or 0 past the end.
 pub fn symbol_cell(rows: &[u32], i: usize, c: usize) -> u32
     ensures { result ≡ get_or rows.now (5 * i + c) 0 }
 {
-    if rows.len() / 5 < i {
-        return 0;
-    }
-    let start = SYMBOL_WIDTH * i;
-    if rows.len() - start <= c {
-        return 0;
-    }
-    at(rows, start + c)
+    row_cell(rows, SYMBOL_WIDTH, i, c)
 }
 
 // A number of fixup i's row, or 0 past the end.
 pub fn fixup_cell(rows: &[u32], i: usize, c: usize) -> u32
     ensures { result ≡ get_or rows.now (9 * i + c) 0 }
 {
-    if rows.len() / 9 < i {
-        return 0;
-    }
-    let start = FIXUP_WIDTH * i;
-    if rows.len() - start <= c {
-        return 0;
-    }
-    at(rows, start + c)
+    row_cell(rows, FIXUP_WIDTH, i, c)
 }

@@ -4,5 +4,5 @@
 mod cell;
 mod range;
 
-pub use cell::{area_cell, fixup_cell, part, symbol_cell};
+pub use cell::{area_cell, fixup_cell, part, row_cell, symbol_cell};
 pub use range::{Range, same_as};

@@ -13,8 +13,5 @@ pub struct Range {
 pub fn same_as(b: bool, c: bool) -> bool
     ensures { result ≡ same_as b c }
 {
-    if c {
-        return b;
-    }
-    !b
+    b == c
 }

@@ -10,30 +10,21 @@ use crate::Kind;
 fn is_blank(b: u8) -> bool
     ensures { result ≡ is_blank b }
 {
-    if b == 32 {
-        return true;
-    }
-    b == 9
+    b == b' ' || b == b'\t'
 }
 
 // CR or LF.
 fn is_cr_or_lf(b: u8) -> bool
     ensures { result ≡ is_cr_or_lf b }
 {
-    if b == 13 {
-        return true;
-    }
-    b == 10
+    b == b'\r' || b == b'\n'
 }
 
 // Blank, CR or LF.
 fn is_white(b: u8) -> bool
     ensures { result ≡ is_white b }
 {
-    if is_blank(b) {
-        return true;
-    }
-    is_cr_or_lf(b)
+    is_blank(b) || is_cr_or_lf(b)
 }
 
 // Whether a byte is of a kind.
@@ -52,15 +43,12 @@ fn of_kind(k: Kind, b: u8) -> bool
 pub fn past_kind(t: &[u8], at: usize, k: Kind) -> usize
     ensures { result ≡ past (kind_of k) t.now at }
 {
-    let mut i = at;
-    while i < t.len() {
-        if of_kind(k, t[i]) {
-            i += 1;
-        } else {
+    for i in at..t.len() {
+        if !of_kind(k, t[i]) {
             return i;
         }
     }
-    i
+    at.max(t.len())
 }
 
 // The byte at a place, or 0 past the end.

@@ -12,13 +12,11 @@ pub fn line_ending(t: &[u8], at: usize) -> usize
         return 0;
     }
     let a = t[at];
-    if a == 10 {
+    if a == b'\n' {
         return 1;
     }
-    if a == 13 {
-        if byte_at(t, at + 1) == 10 {
-            return 2;
-        }
+    if a == b'\r' && byte_at(t, at + 1) == b'\n' {
+        return 2;
     }
     0
 }

@@ -6,16 +6,14 @@ ghost use Rattle.format.specs.Number.{behind};
 pub fn past_word(t: &[u8], at: usize, w: &[u8]) -> usize
     ensures { result ≡ behind w.now t.now at }
 {
-    let mut i = 0;
     let mut p = at;
-    while i < w.len() {
+    for b in w {
         if t.len() <= p {
             return at;
         }
-        if w[i] != t[p] {
+        if *b != t[p] {
             return at;
         }
-        i += 1;
         p += 1;
     }
     p

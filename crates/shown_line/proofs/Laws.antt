@@ -1,24 +1,24 @@
 -- The laws of the line that is shown.
 -- Assumes nothing.
-use Prim.Native.Nat.{ℕ, suc, ◌+◌, ◌-◌, ◌≤◌, ◌<◌, ◌^◌, max, min}
+use Prim.Native.Nat.{ℕ, ◌+◌, ◌-◌, ◌≤◌, ◌<◌, ◌^◌, max, min}
 use mathlib.Core.Path.{◌≡◌, refl, sym, ap, ◌∙◌}
 use mathlib.Core.Bool.{Bool, true, false, not}
 use mathlib.Core.List.{List, [], ◌∷◌, ◌++◌, map}
 use native.Mathlib.Nat.{add-zero}
 use native.Mathlib.Numerals.{add-one}
 use native.Mathlib.Omega.{arith}
-use lib.Dec.{eqb, ltb}
+use lib.Dec.{eqb}
 use lib.ListN.{length, take, drop, get_or, drop_of_length-le}
 use lib.Seq.{drop-cons, take-suc, take_all}
 use borrow.Author.Rules.{rules}
-use borrow.Author.Tests.{lt-ltb, le-ltb, eq-eqb, ne_eqb}
+use borrow.Author.Tests.{eq-eqb, ne_eqb}
 use mir.Val.{Fits}
 use mir.Syntax.{w64}
 use Rattle.format.specs.Lists.{pick}
 use Rattle.format.specs.Bytes.{is_cr_or_lf}
 use Rattle.format.specs.Number.{past}
 use Rattle.sink.specs.declared.output.Sink.{Sink}
-use Rattle.sink.specs.Sinks.{behind, Adds}
+use Rattle.sink.specs.Sinks.{Adds}
 use Rattle.texts.proofs.Laws.{adds-both}
 use Rattle.shown_line.specs.declared.Window.{Window}
 use Rattle.shown_line.specs.Shown.{lines_from, safe, start_from, window_of}
@@ -100,28 +100,6 @@ pub lines-of-part : (text : List ℕ) (place : ℕ) {p : List ℕ} {n : ℕ} →
 lines-of-part text place a e = a ∙ ap (lines_from 0) e
 
 pub ruleset windows = (rules, window-is, lines-of-part)
-
--- `safe`
-module _ (b : ℕ) where
-  pub safe-tab : b ≡ 9 → 32 ≡ safe b
-  unfolding safe
-  safe-tab e = sym (ap (λ (t : Bool). pick t 32 (pick (ltb b 32) 63 (pick (ltb 126 b) 63 b))) (eq-eqb b 9 e))
-
-  module _ (e : b ≡ 9 → ⊥) where
-    no-tab : safe b ≡ pick (ltb b 32) 63 (pick (ltb 126 b) 63 b)
-    unfolding safe
-    no-tab = ap (λ (t : Bool). pick t 32 (pick (ltb b 32) 63 (pick (ltb 126 b) 63 b))) (ne_eqb b 9 e)
-
-    pub safe-low : b < 32 → 63 ≡ safe b
-    safe-low h = sym (no-tab ∙ ap (λ (t : Bool). pick t 63 (pick (ltb 126 b) 63 b)) (lt-ltb b 32 h))
-
-    pub safe-high : 32 ≤ b → 126 < b → 63 ≡ safe b
-    safe-high h k = sym (no-tab ∙ ap (λ (t : Bool). pick t 63 (pick (ltb 126 b) 63 b)) (le-ltb b 32 h) ∙ ap (λ (t : Bool). pick t 63 b) (lt-ltb 126 b k))
-
-    pub safe-plain : 32 ≤ b → b ≤ 126 → b ≡ safe b
-    safe-plain h k = sym (no-tab ∙ ap (λ (t : Bool). pick t 63 (pick (ltb 126 b) 63 b)) (le-ltb b 32 h) ∙ ap (λ (t : Bool). pick t 63 b) (le-ltb 126 b k))
-
-pub ruleset safes = (rules, safe-tab, safe-low, safe-high, safe-plain)
 
 -- `put_safe`: i bytes are added
 map-append : (f : ℕ → ℕ) (a b : List ℕ) → map f (a ++ b) ≡ map f a ++ map f b

@@ -34,10 +34,8 @@ fn lines_in(bytes: &[u8]) -> usize
     ensures { result ≡ lines_from 0 bytes.now }
 {
     let mut n: usize = 0;
-    let mut i: usize = 0;
-    while i < bytes.len() {
-        n = after_byte(bytes[i], n + 1, n);
-        i += 1;
+    for byte in bytes {
+        n = after_byte(*byte, n + 1, n);
     }
     n
 }
@@ -54,10 +52,8 @@ fn start_behind(bytes: &[u8]) -> usize
     ensures { result ≡ start_from 0 0 bytes.now }
 {
     let mut start: usize = 0;
-    let mut i: usize = 0;
-    while i < bytes.len() {
+    for i in 0..bytes.len() {
         start = after_byte(bytes[i], i + 1, start);
-        i += 1;
     }
     start
 }
@@ -66,14 +62,7 @@ fn start_behind(bytes: &[u8]) -> usize
 fn shown_from(start: usize, place: usize) -> usize
     ensures { result ≡ max start (place - 48) }
 {
-    if place <= 48 {
-        return start;
-    }
-    let back = place - 48;
-    if start < back {
-        return back;
-    }
-    start
+    start.max(place.saturating_sub(48))
 }
 
 // The line at a place, and the part of it, of at most 72 bytes, that is shown.
@@ -92,19 +81,15 @@ pub fn shown_part(text: &[u8], place: usize) -> Window
 }
 
 // A byte that a terminal shows in one column: a tab as a blank, any other that is not printed as a question mark.
+#[tactic(auto, unfolding(crate::specs::Shown::safe))]
 fn safe(byte: u8) -> u8
     ensures { result ≡ safe_byte byte }
 {
-    if byte == 9 {
-        return 32;
+    match byte {
+        b'\t' => b' ',
+        32..=126 => byte,
+        _ => b'?',
     }
-    if byte < 32 {
-        return 63;
-    }
-    if 126 < byte {
-        return 63;
-    }
-    byte
 }
 
 // Adds the bytes of a line, made safe.
@@ -112,10 +97,8 @@ pub fn put_safe(s: Sink, out: &mut Buffer, bytes: &[u8]) -> Sink
     ensures { Adds s out.old (map safe_byte bytes.now) result out.new }
 {
     let mut now = s;
-    let mut i = 0;
-    while i < bytes.len() {
-        now = sink::put(now, out, &[safe(bytes[i])]);
-        i += 1;
+    for byte in bytes {
+        now = sink::put(now, out, &[safe(*byte)]);
     }
     now
 }

@@ -38,14 +38,10 @@ fn broken() -> Sink
 fn write(s: Sink, out: &[u8]) -> Sink
     ensures { Written s result }
 {
-    let used = s.used;
-    if s.broken {
+    if s.broken || out.len() < s.used {
         return broken();
     }
-    if out.len() < used {
-        return broken();
-    }
-    if io::write_all(STDOUT_FILENO, &out[0..used]) {
+    if io::write_all(STDOUT_FILENO, &out[..s.used]) {
         return new();
     }
     host::tell_failure(b"standard output", host::last_failure());
@@ -58,28 +54,22 @@ fn add(s: Sink, out: &mut [u8], bytes: &[u8]) -> Sink
 {
     let used = s.used;
     let n = bytes.len();
-    if out.len() < used {
+    if out.len() < used || out.len() - used < n {
         return add_first(write(s, out), out, bytes);
     }
-    if out.len() - used < n {
-        return add_first(write(s, out), out, bytes);
-    }
-    cells::copy_bytes(out, used, bytes, n);
+    out[used..used + n].copy_from_slice(bytes);
     Sink {
         used: used + n,
-        broken: s.broken,
+        ..s
     }
 }
 
 // Adds bytes where none wait, or writes them at once where they are more than the slice holds.
 fn add_first(s: Sink, out: &mut [u8], bytes: &[u8]) -> Sink {
     let n = bytes.len();
-    let t = Sink {
-        used: n,
-        broken: s.broken,
-    };
+    let t = Sink { used: n, ..s };
     if n <= out.len() {
-        cells::copy_bytes(out, 0, bytes, n);
+        out[..n].copy_from_slice(bytes);
         return t;
     }
     write(t, bytes)

@@ -5,20 +5,12 @@ ghost use Rattle.std.specs.Prelude.{◌≡◌, ◌+◌, min, take};
 pub fn first_bytes(bytes: &[u8], n: usize) -> &[u8]
     ensures { result.now ≡ take n bytes.now }
 {
-    if n <= bytes.len() {
-        return &bytes[0..n];
-    }
-    bytes
+    &bytes[..n.min(bytes.len())]
 }
 
 // The place behind n bytes from a place on, but not past the end.
 pub fn end_of(at: usize, n: usize, end: usize) -> usize
     ensures { result ≡ min (at + n) end }
 {
-    if at <= end {
-        if n <= end - at {
-            return at + n;
-        }
-    }
-    end
+    at.saturating_add(n).min(end)
 }

@@ -1,99 +1,18 @@
--- What the proofs of the bounds share: a law for each return, and the facts that a test stands for.
+-- What the proofs of the bounds share: the facts that a test stands for.
 -- Assumes nothing.
-use Prim.Native.Nat.{ℕ, ◌+◌, ◌≤◌, ◌<◌}
-use mathlib.Core.Path.{◌≡◌, refl, sym, ◌∙◌}
-use mathlib.Core.Bool.{Bool, true, false, not, ◌&&◌}
+use Prim.Native.Nat.{ℕ, ◌+◌, ◌≤◌}
+use mathlib.Core.Path.{◌≡◌}
+use mathlib.Core.Bool.{true, ◌&&◌}
 use mathlib.Core.List.{List}
 use native.Mathlib.Omega.{arith}
-use mir.Val.{Fits}
-use mir.Syntax.{w64}
 use lib.Dec.{leb}
-use borrow.Author.Rules.{rules}
-use borrow.Author.Tests.{le-leb, lt-leb, leb-true, not-true, not-false}
+use borrow.Author.Tests.{le-leb, leb-true}
 use Rattle.laws.specs.Rows.{tables_in}
 use Rattle.cells.proofs.Both.{both_true}
 use Rattle.sites.specs.declared.Line.{Line}
 use Rattle.sites.specs.declared.Filled.{Filled}
 use Rattle.sites.specs.declared.Site.{Site}
 use Rattle.sites.specs.Site.{line_fits, filled_fits, is_ready, Short, Ready, few, tables_for}
-
--- `line_fits`
-module _ (l : Line) (lent : ℕ) where
-  pub wide-address : 4 < l.width → false ≡ line_fits l lent
-  unfolding line_fits
-  wide-address h = rw (lt-leb l.width 4 h)
-
-  module _ (a : l.width ≤ 4) where
-    pub long-content : 256 < l.bytes → false ≡ line_fits l lent
-    unfolding line_fits
-    long-content h = rw (le-leb l.width 4 a, lt-leb l.bytes 256 h)
-
-    module _ (b : l.bytes ≤ 256) where
-      pub unlent-content : lent < l.bytes → false ≡ line_fits l lent
-      unfolding line_fits
-      unlent-content h = rw (le-leb l.width 4 a, le-leb l.bytes 256 b, lt-leb l.bytes lent h)
-
-      pub line-last : l.bytes ≤ lent → leb l.fragments 64 ≡ line_fits l lent
-      unfolding line_fits
-      line-last c = rw (le-leb l.width 4 a, le-leb l.bytes 256 b, le-leb l.bytes lent c)
-
--- `filled_fits`
-module _ (n : Filled) (room : ℕ) where
-  pub many-areas : 64 < n.areas → false ≡ filled_fits n room
-  unfolding filled_fits
-  many-areas h = rw (lt-leb n.areas 64 h)
-
-  module _ (a : n.areas ≤ 64) where
-    pub many-symbols : 1024 < n.symbols → false ≡ filled_fits n room
-    unfolding filled_fits
-    many-symbols h = rw (le-leb n.areas 64 a, lt-leb n.symbols 1024 h)
-
-    module _ (b : n.symbols ≤ 1024) where
-      pub many-fixups : 1024 < n.fixups → false ≡ filled_fits n room
-      unfolding filled_fits
-      many-fixups h = rw (le-leb n.areas 64 a, le-leb n.symbols 1024 b, lt-leb n.fixups 1024 h)
-
-      pub filled-last : n.fixups ≤ 1024 → leb 9216 room ≡ filled_fits n room
-      unfolding filled_fits
-      filled-last c = rw (le-leb n.areas 64 a, le-leb n.symbols 1024 b, le-leb n.fixups 1024 c)
-
--- `counts_fit`
-module _ (l : Line) (n : Filled) (lent room : ℕ) {a : Bool} (ea : a ≡ line_fits l lent) where
-  pub counts-first : a ≡ false → false ≡ (line_fits l lent && filled_fits n room)
-  counts-first h = rw (← ea, h)
-
-  pub counts-both : a ≡ true → {b : Bool} → b ≡ filled_fits n room → b ≡ (line_fits l lent && filled_fits n room)
-  counts-both h e = rw (← ea, h) e
-
-pub ruleset fitting = (rules, wide-address, long-content, unlent-content, line-last, many-areas, many-symbols, many-fixups, filled-last, counts-first, counts-both)
-
--- ------------------------------------------------------------------ `is_ready`
-
-module _ (s : Site) {c : Bool} (ec : c ≡ (line_fits s.line s.line.bytes && filled_fits s.filled 9216)) where
-  pub unready-counts : not c ≡ true → false ≡ is_ready s
-  unfolding is_ready
-  unready-counts h = rw (← ec, not-true c h)
-
-  module _ (k : not c ≡ false) where
-    pub unready-start : 65536 < s.start → false ≡ is_ready s
-    unfolding is_ready
-    unready-start h = rw (← ec, not-false c k, lt-leb (s.start + s.size) 65536 (omega arith))
-
-    module _ {z : ℕ} (ez : z ≡ s.size) where
-      pub unready-end : 65536 < s.start + z → false ≡ is_ready s
-      unfolding is_ready
-      unready-end h = rw (← ec, not-false c k, ← ez, lt-leb (s.start + z) 65536 h)
-
-      pub ready-last : s.start + z ≤ 65536 → leb s.made 64 ≡ is_ready s
-      unfolding is_ready
-      ready-last h = rw (← ec, not-false c k, ← ez, le-leb (s.start + z) 65536 h)
-
-pub end_fits : (s : Site) {z : ℕ} → s.start ≤ 65536 → z ≡ s.size → s.size < 4294967296 → Fits w64 (s.start + z)
-end_fits s h e l = record { fits = omega arith }
-
-pub ruleset readying = (rules, unready-counts, unready-start, unready-end, ready-last, end_fits)
-
--- ------------------------------------------------------------------ the facts that a test stands for
 
 -- what the test of a line says
 pub record Lined (l : Line) (lent : ℕ) : Type 0 where

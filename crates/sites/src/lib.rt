@@ -40,61 +40,36 @@ pub struct Site {
 }
 
 // Whether a line's counts are within the bounds, and as many content bytes are lent.
+#[tactic(auto, unfolding(crate::specs::Site::line_fits))]
 pub fn line_fits(line: Line, lent: usize) -> bool
     ensures { result ≡ line_fits line lent }
 {
-    if 4 < line.width {
-        return false;
-    }
-    if 256 < line.bytes {
-        return false;
-    }
-    if lent < line.bytes {
-        return false;
-    }
-    line.fragments <= 64
+    line.width <= 4 && line.bytes <= 256 && line.bytes <= lent && line.fragments <= 64
 }
 
 // Whether the counts of rows are, and the fixup rows have room.
+#[tactic(auto, unfolding(crate::specs::Site::filled_fits))]
 fn filled_fits(filled: Filled, room: usize) -> bool
     ensures { result ≡ filled_fits filled room }
 {
-    if 64 < filled.areas {
-        return false;
-    }
-    if 1024 < filled.symbols {
-        return false;
-    }
-    if 1024 < filled.fixups {
-        return false;
-    }
-    FIXUP_ROOM <= room
+    filled.areas <= 64 && filled.symbols <= 1024 && filled.fixups <= 1024 && FIXUP_ROOM <= room
 }
 
 // Whether both do, with so many content bytes lent and room for so many numbers of fixup rows.
 pub fn counts_fit(line: Line, filled: Filled, lent: usize, room: usize) -> bool
     ensures { result ≡ (line_fits line lent && filled_fits filled room) }
 {
-    if line_fits(line, lent) {
-        return filled_fits(filled, room);
-    }
-    false
+    line_fits(line, lent) && filled_fits(filled, room)
 }
 
 // Whether a site is within the bounds: its counts, the end of its image, and the numbers made.
+#[tactic(auto, unfolding(crate::specs::Site::is_ready))]
 pub fn is_ready(site: Site) -> bool
     ensures { result ≡ is_ready site }
 {
     let line = site.line;
-    let filled = site.filled;
-    if !counts_fit(line, filled, line.bytes, FIXUP_ROOM) {
-        return false;
-    }
-    if IMAGE_ROOM < site.start {
-        return false;
-    }
-    if IMAGE_ROOM < site.start + wide(site.size) {
-        return false;
-    }
-    site.made <= 64
+    counts_fit(line, site.filled, line.bytes, FIXUP_ROOM)
+        && site.start <= IMAGE_ROOM
+        && site.start + wide(site.size) <= IMAGE_ROOM
+        && site.made <= 64
 }

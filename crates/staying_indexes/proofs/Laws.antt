@@ -1,6 +1,6 @@
 -- The symbol indexes of fragments, counted by the symbols that stay.
 -- Assumes nothing.
-use Prim.Native.Nat.{suc, zero, ℕ, ◌*◌, ◌+◌, ◌-◌, ◌/◌, ◌<◌, ◌≤◌}
+use Prim.Native.Nat.{min, suc, zero, ℕ, ◌*◌, ◌+◌, ◌-◌, ◌/◌, ◌<◌, ◌≤◌}
 use mathlib.Core.Path.{◌≡◌, ap, refl, sym, ◌∙◌}
 use mathlib.Core.Bool.{Bool, false, not, true}
 use mathlib.Core.List.{List}
@@ -65,17 +65,22 @@ down-past flags old i (suc m) h =
     let l = down-long flags old (i + m) in
     ap (down flags old) z ∙ (past_same flags (down flags old (i + m)) (i + m) (omega (arith, l)) ∙ down-past flags old i m h)
 
-module _ {flags old : List ℕ} {n : ℕ} {fragments : List ℕ} {i : ℕ} (w : Lowering flags old n fragments i) where
-  pub lower-past : i < n → {m : ℕ} → m ≡ length old / 3 → m ≤ i → fragments ≡ down flags old n
-  lower-past h e l =
-      let z : i + (n - i) ≡ n = omega arith in
-      w.is ∙ (sym (down-past flags old i (n - i) (omega (arith, e))) ∙ ap (down flags old) z)
+down-rest : (flags old : List ℕ) (i k : ℕ) → (0 < k → length old / 3 ≤ i) → down flags old (i + k) ≡ down flags old i
+down-rest flags old i zero h = let z : i + 0 ≡ i = omega arith in ap (down flags old) z
+down-rest flags old i (suc k) h = down-past flags old i (suc k) (h (omega arith))
 
-  pub lower-more : i < n → {fragments' : List ℕ} → length fragments' ≡ length fragments → fragments' ≡ down_one flags fragments i → Lowering flags old n fragments' (i + 1)
+module _ {flags old : List ℕ} (n : ℕ) {fragments : List ℕ} {i : ℕ} (w : Lowering flags old (min n (length old / 3)) fragments i) {end : ℕ} (e : end ≡ min n (length old / 3)) where
+  pub lower-in : i < end → i < length fragments / 3
+  lower-in h = let z : length fragments / 3 ≡ length old / 3 = ap (λ (m : ℕ). m / 3) w.long in omega (arith, e, z)
+
+  pub lower-more : i < end → {fragments' : List ℕ} → length fragments' ≡ length fragments → fragments' ≡ down_one flags fragments i → Lowering flags old (min n (length old / 3)) fragments' (i + 1)
   unfolding down
-  lower-more h l e = record { within = omega arith; is = e ∙ (ap (λ (f : List ℕ). down_one flags f i) w.is ∙ sym (ap (down flags old) (add-one i))); long = l ∙ w.long }
+  lower-more h l d = record { within = omega (arith, e); is = d ∙ (ap (λ (f : List ℕ). down_one flags f i) w.is ∙ sym (ap (down flags old) (add-one i))); long = l ∙ w.long }
 
-  pub lower-end : n ≤ i → fragments ≡ down flags old n
-  lower-end h = let z : i ≡ n = omega (arith, w.within) in w.is ∙ ap (down flags old) z
+  pub lower-end : end ≤ i → fragments ≡ down flags old n
+  lower-end h =
+      let x : i ≡ min n (length old / 3) = omega (arith, w.within, e) in
+      let z : i + (n - i) ≡ n = omega (arith, x) in
+      w.is ∙ (sym (down-rest flags old i (n - i) (λ l. omega (arith, x, l))) ∙ ap (down flags old) z)
 
-pub ruleset lowers = (rules, lower-start, lower-past, lower-more, lower-end)
+pub ruleset lowers = (rules, lower-start, lower-in, lower-more, lower-end)

@@ -33,12 +33,7 @@ pub fn count_down(fragments: &mut [u32], n: usize, flags: &[u8])
     ensures { fragments.new ≡ down flags.now fragments.old n }
 {
     let m = fragments.len() / 3;
-    let mut i = 0;
-    while i < n {
-        if m <= i {
-            return;
-        }
+    for i in 0..n.min(m) {
         count_one(fragments, i, flags);
-        i += 1;
     }
 }

@@ -35,15 +35,6 @@ module _ (symbols flags : List ℕ) (j k : ℕ) (out : List ℕ) {b : ℕ} (e : 
 
 pub ruleset keeping = (rules, keep-goes, keep-stays)
 
--- `at_most`
-pub min-low : (n : ℕ) → n < 1024 → n ≡ min n 1024
-min-low n h = omega arith
-
-pub min-high : (n : ℕ) → 1024 ≤ n → 1024 ≡ min n 1024
-min-high n h = omega arith
-
-pub ruleset least = (rules, min-low, min-high)
-
 -- `keep_rows`
 rows_long : (flags symbols : List ℕ) (j : ℕ) → length (staying_rows flags symbols j) ≡ 5 * staying flags j
 unfolding staying_rows staying stays symbol_row

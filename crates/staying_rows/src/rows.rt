@@ -32,26 +32,14 @@ fn keep_one(symbols: &[u32], j: usize, k: usize, flags: &[u8], out: &mut [u32]) 
     k + 1
 }
 
-// At most 1,024.
-fn at_most(n: usize) -> usize
-    ensures { result ≡ min n 1024 }
-{
-    if n < 1024 {
-        return n;
-    }
-    1024
-}
-
 // The rows of those of n symbols that stay, at most 1,024 of them, and how many there are.
 pub fn keep_rows(symbols: &[u32], n: usize, flags: &[u8], out: &mut [u32]) -> usize
     ensures { KeptRows symbols.now flags.now (min n 1024) out.old result out.new }
 {
-    let m = at_most(n);
+    let m = n.min(1024);
     let mut k = 0;
-    let mut j = 0;
-    while j < m {
+    for j in 0..m {
         k = keep_one(symbols, j, k, flags, out);
-        j += 1;
     }
     k
 }

@@ -1,7 +1,7 @@
 -- An empty pair in the usual form: what it does to group two, and that it leaves what was lent as it is.
 -- Assumes nothing.
 use Prim.Native.Nat.{ℕ, ◌+◌, ◌-◌, ◌<◌, ◌≤◌, ◌^◌}
-use mathlib.Core.Path.{◌≡◌, refl, sym, subst, ◌∙◌}
+use mathlib.Core.Path.{◌≡◌, refl}
 use mathlib.Core.Bool.{Bool, true}
 use mathlib.Core.List.{List, []}
 use native.Mathlib.Omega.{arith}
@@ -12,18 +12,17 @@ use borrow.Author.Rules.{rules}
 use Rattle.format.specs.Lists.{pick}
 use Rattle.format.specs.Got.{is}
 use Rattle.format.specs.Header.{Form}
-use Rattle.format.specs.Pairs.{content_line, whole_content, relocation_line, pair_of, placed_of}
+use Rattle.format.specs.Pairs.{pair_of, placed_of}
 use Rattle.format.specs.Pairs as the
 use Rattle.pair_line.proofs.Laws.Content.{whole_is}
 use Rattle.text_lines.specs.Lines as scan
 use Rattle.text_lines.specs.declared.LineAt.{LineAt}
 use Rattle.empty_pair.specs.Empty.{EmptyAt, EmptyPair}
 use Rattle.empty_pair.specs.declared.Empty.{Empty}
-use Rattle.empty_pair.specs.declared.Empty.TheVariants.{Is}
 use Rattle.steps.specs.Entries.{LineIs}
-use Rattle.steps.specs.PairLines.{PairIs, PairStepIs, Left, LeftAt}
+use Rattle.steps.specs.PairLines.{PairIs, PairStepIs, LeftAt}
 use Rattle.steps.specs.declared.pair.Body.TheVariants.{Placed}
-use Rattle.steps.specs.declared.pair.PairLine.TheVariants.{Pair}
+use Rattle.std.specs.Prelude.{Option, Some}
 use Rattle.steps.specs.declared.pair.PairStep.TheVariants.{Takes}
 use Rattle.steps.proofs.PairSteps.{pair_here, pstep-1, left-some}
 
@@ -60,7 +59,7 @@ module _ (f : Form) (s : List ℕ) (p : ℕ) {a r : ℕ} (w : EmptyAt f s p a r)
   read = rw (x, y, z, w.content, w.relocation)
 
   module _ (b ms es xs : List ℕ) where
-    pair_is : PairIs (pair_here f s p one two) (Pair (Placed a 0 r 0) 24) b ms es xs b ms es xs
+    pair_is : PairIs (pair_here f s p one two) (Some (record { body = Placed a 0 r 0; used = 24 })) b ms es xs b ms es xs
     unfolding one two
     pair_is = record {
       says = record {
@@ -83,11 +82,11 @@ module _ (f : Form) (s : List ℕ) (p : ℕ) {a r : ℕ} (w : EmptyAt f s p a r)
     step_is ended e = let o : p + 24 - p ≡ 24 = omega arith in pstep-1 ended f s p first some_end second pair_is (rw (o, e))
 
 -- `pair_step`
-module _ {f : Form} {s : List ℕ} {p : ℕ} {o : Empty} (w : EmptyPair f s p o) {a r : ℕ} (e : o ≡ Is a r) where
-  here : EmptyAt f s p a r
+module _ {f : Form} {s : List ℕ} {p : ℕ} {o : Option Empty} (w : EmptyPair f s p o) {x : Empty} (e : o ≡ Some x) where
+  here : EmptyAt f s p x.address x.area
   here = rw e at w.says
 
-  pub empty-step : (ended : Bool) {n : ℕ} → n ≡ pick ended (p + 25) (p + 24) → (b ms es xs : List ℕ) → PairStepIs ended f s p (Takes (Placed a 0 r 0) n (p + 25) true) b ms es xs b ms es xs
+  pub empty-step : (ended : Bool) {n : ℕ} → n ≡ pick ended (p + 25) (p + 24) → (b ms es xs : List ℕ) → PairStepIs ended f s p (Takes (Placed x.address 0 x.area 0) n (p + 25) true) b ms es xs b ms es xs
   empty-step ended g b ms es xs = step_is f s p here b ms es xs ended g
 
   pub empty_left : (b ms es xs : List ℕ) → LeftAt f s p b ms es xs b ms es xs

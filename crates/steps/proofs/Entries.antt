@@ -27,8 +27,9 @@ use Rattle.line_step.specs.declared.LineStep.TheVariants.{Goes, Last, Stops as H
 use Rattle.entry_line.specs.Told.{entry_of, told_entry}
 use Rattle.entry_line.specs.declared.Entry.{Entry}
 use Rattle.entry_line.specs.declared.Entry.TheVariants.{Area, Symbol, Ignored}
-use Rattle.entry_line.specs.declared.EntryLine.{EntryLine}
-use Rattle.entry_line.specs.declared.EntryLine.TheVariants.{Is, No}
+use Rattle.std.specs.Prelude.{Result, Ok, Err}
+use Rattle.numbers.specs.declared.Halt.{Halt}
+use Rattle.numbers.specs.declared.Read.{Read}
 use Rattle.steps.specs.Entries.{LineIs, StepIn, EntryFits, Placed}
 use Rattle.text_lines.specs.Lines as lines
 use Rattle.text_lines.specs.declared.LineAt.{LineAt}
@@ -89,27 +90,27 @@ step-as ended p n e next u b = go (eqb u n && leb 1 e) ended
     go false true = refl
     go false false = refl
 
-entry-at : (ended : Bool) (f : Form) (s : List ℕ) (p : ℕ) {l : LineAt} → LineIs s p l → (y : EntryLine) → told_entry y ≡ entry_line f (take (l.end - p) (drop p s)) 0
+entry-at : (ended : Bool) (f : Form) (s : List ℕ) (p : ℕ) {l : LineAt} → LineIs s p l → (y : Result (Read Entry) Halt) → told_entry y ≡ entry_line f (take (l.end - p) (drop p s)) 0
     → entry_at ended f s p ≡ step_of ended p (l.end - p) l.ends l.next (told_entry y)
 unfolding entry_at
 entry-at ended f s p w y d = rw (← w.ends_at, ← w.line-end, ← w.behind, d)
 
-module _ (ended : Bool) (f : Form) (s : List ℕ) (p : ℕ) {l : LineAt} (w : LineIs s p l) {y : EntryLine}
+module _ (ended : Bool) (f : Form) (s : List ℕ) (p : ℕ) {l : LineAt} (w : LineIs s p l) {y : Result (Read Entry) Halt}
     (d : told_entry y ≡ entry_line f (take (l.end - p) (drop p s)) 0) where
-  pub step-1 : {r x : ℕ} → y ≡ No r x → stops ≡ entry_at ended f s p
+  pub step-1 : {h : Halt} → y ≡ Err h → stops ≡ entry_at ended f s p
   step-1 g = sym (entry-at ended f s p w y d ∙ rw g)
 
-  module _ {en : Entry} {u : ℕ} (g : y ≡ Is en u) {o : LineStep} (h : o ≡ line_step ended u (l.end - p) l.ends l.next (p + u)) where
-    taken : entry_at ended f s p ≡ as_step p (entry_of en) o
-    taken = entry-at ended f s p w y d ∙ rw (g, h) (step-as ended p (l.end - p) l.ends l.next u (entry_of en))
+  module _ {en : Read Entry} (g : y ≡ Ok en) {o : LineStep} (h : o ≡ line_step ended en.next (l.end - p) l.ends l.next (p + en.next)) where
+    taken : entry_at ended f s p ≡ as_step p (entry_of en.value) o
+    taken = entry-at ended f s p w y d ∙ rw (g, h) (step-as ended p (l.end - p) l.ends l.next en.next (entry_of en.value))
 
-    pub step-2 : {x : ℕ} → o ≡ Goes x → goes (record { place = p; end = x; body = entry_of en }) ≡ entry_at ended f s p
+    pub step-2 : {x : ℕ} → o ≡ Goes x → goes (record { place = p; end = x; body = entry_of en.value }) ≡ entry_at ended f s p
     step-2 i = sym (taken ∙ rw i)
 
     pub step-3 : o ≡ Halts → stops ≡ entry_at ended f s p
     step-3 i = sym (taken ∙ rw i)
 
-    pub step-4 : {x : ℕ} → o ≡ Last x → last (record { place = p; end = x; body = entry_of en }) ≡ entry_at ended f s p
+    pub step-4 : {x : ℕ} → o ≡ Last x → last (record { place = p; end = x; body = entry_of en.value }) ≡ entry_at ended f s p
     step-4 i = sym (taken ∙ rw i)
 
 pub some_end : (x : Bool) (e : ℕ) → (x && leb 1 e) ≡ true → 1 ≤ e
@@ -131,29 +132,29 @@ fits_in s part p n (Area a k z g x) h w = omega arith
 fits_in s part p n (Symbol a k r v) h w = omega arith
 fits_in s part p n Ignored h w = omega arith
 
-module _ (f : Form) (s : List ℕ) (p : ℕ) {l : LineAt} (w : LineIs s p l) {y : EntryLine} (d : told_entry y ≡ entry_line f (take (l.end - p) (drop p s)) 0)
-    {en : Entry} {u : ℕ} (g : y ≡ Is en u) where
+module _ (f : Form) (s : List ℕ) (p : ℕ) {l : LineAt} (w : LineIs s p l) {y : Result (Read Entry) Halt} (d : told_entry y ≡ entry_line f (take (l.end - p) (drop p s)) 0)
+    {en : Read Entry} (g : y ≡ Ok en) where
   part_length : p + length (take (l.end - p) (drop p s)) ≡ l.end
   part_length =
       let k : l.end - p ≤ length (drop p s) = omega (arith, length-drop p s, end-in s w) in
       omega (arith, length-take-le (l.end - p) (drop p s) k, w.from)
 
-  entry-inside : EntryIn (take (l.end - p) (drop p s)) (entry_of en) u
+  entry-inside : EntryIn (take (l.end - p) (drop p s)) (entry_of en.value) en.next
   entry-inside = subst (Holds (EntryIn (take (l.end - p) (drop p s)))) (sym d ∙ ap told_entry g) (entry_in f (take (l.end - p) (drop p s)) 0 (omega arith))
 
-  used-inside : p + u ≤ length s
+  used-inside : p + en.next ≤ length s
   used-inside = omega (arith, entry-inside.0, part_length, end-in s w)
 
-  pub used-fits : length s < 2 ^ 64 → Fits w64 (p + u)
+  pub used-fits : length s < 2 ^ 64 → Fits w64 (p + en.next)
   used-fits k = record { fits = omega (arith, used-inside) }
 
-  entry-fits : Placed (length s) p en
-  entry-fits = record { fits = fits_in s (take (l.end - p) (drop p s)) p (length s) en (omega (arith, part_length, end-in s w)) entry-inside.1 }
+  entry-fits : Placed (length s) p en.value
+  entry-fits = record { fits = fits_in s (take (l.end - p) (drop p s)) p (length s) en.value (omega (arith, part_length, end-in s w)) entry-inside.1 }
 
-  pub step-in-last : (x : ℕ) → StepIn s p (Takes en x l.next false)
+  pub step-in-last : (x : ℕ) → StepIn s p (Takes en.value x l.next false)
   step-in-last x = record { bounds = (entry-fits, w.behind, w.inside, λ e. absurd (let z : ◌≡◌ {A = ℕ} 0 1 = cc in omega arith)) }
 
-  pub step-in-goes : (ended : Bool) {o : LineStep} → o ≡ line_step ended u (l.end - p) l.ends l.next (p + u) → {x : ℕ} → o ≡ Goes x → StepIn s p (Takes en x l.next true)
-  step-in-goes ended i j = record { bounds = (entry-fits, w.behind, w.inside, λ e. omega (arith, w.from, w.width, goes-ends ended u (l.end - p) l.ends l.next (p + u) (sym i ∙ j))) }
+  pub step-in-goes : (ended : Bool) {o : LineStep} → o ≡ line_step ended en.next (l.end - p) l.ends l.next (p + en.next) → {x : ℕ} → o ≡ Goes x → StepIn s p (Takes en.value x l.next true)
+  step-in-goes ended i j = record { bounds = (entry-fits, w.behind, w.inside, λ e. omega (arith, w.from, w.width, goes-ends ended en.next (l.end - p) l.ends l.next (p + en.next) (sym i ∙ j))) }
 
 pub ruleset steps = (rules, end-in, step_past, used-fits, step-1, step-2, step-3, step-4, step-in-none, step-in-last, step-in-goes)

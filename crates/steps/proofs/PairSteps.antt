@@ -1,13 +1,12 @@
 -- The laws of what two lines at a place do to group two.
 -- Assumes nothing.
 use Prim.Native.Nat.{ℕ, ◌+◌, ◌-◌, ◌^◌, ◌<◌, ◌≤◌}
-use mathlib.Core.Path.{◌≡◌, refl, ap, sym, subst, ◌∙◌}
+use mathlib.Core.Path.{◌≡◌, refl, sym, subst, ◌∙◌}
 use mathlib.Core.Bool.{Bool, true, false, ◌&&◌}
-use mathlib.Core.List.{List, []}
+use mathlib.Core.List.{List}
 use native.Mathlib.Omega.{arith}
-use native.Mathlib.Nat.{le_of_lt, le_trans}
 use lib.ListN.{length, take, drop, length-drop}
-use lib.Seq.{sets, length-sets, length-take-le}
+use lib.Seq.{length-take-le}
 use lib.Dec.{leb, eqb}
 use mir.Val.{Fits as Fit64}
 use mir.Syntax.{w64}
@@ -27,14 +26,11 @@ use Rattle.line_step.specs.declared.LineStep.{LineStep}
 use Rattle.line_step.specs.declared.LineStep.TheVariants.{Stops, Goes, Last}
 use Rattle.pair_places.specs.Places.{LinesAt, PlacesAre}
 use Rattle.pair_places.specs.declared.PairPlaces.{PairPlaces}
-use Rattle.pair_places.specs.declared.PairPlaces.TheVariants.{Lines, Alone}
-use Rattle.fragments.specs.Fragments.{modes, entries, indexes, Rows}
-use Rattle.pair_line.specs.Pairs.{bytes_in, fragments_in}
+use Rattle.std.specs.Prelude.{Option, Some, None}
 use Rattle.steps.specs.Entries.{LineIs}
-use Rattle.steps.specs.PairLines.{none, case_of, stored_by, Left, bytes_at, fragments_at, LeftAt, BodyIs, PairSays, PairIs, StepSays, PairStepIs, UsedBounds, UsedIn, step_on, step_from}
+use Rattle.steps.specs.PairLines.{none, case_of, Left, LeftAt, BodyIs, PairSays, PairIs, StepSays, PairStepIs, UsedBounds, UsedIn, step_on, step_from}
 use Rattle.steps.specs.declared.pair.Body.{Body}
 use Rattle.steps.specs.declared.pair.PairLine.{PairLine}
-use Rattle.steps.specs.declared.pair.PairLine.TheVariants.{Pair, NoPair}
 use Rattle.steps.specs.declared.pair.PairStep.{PairStep}
 use Rattle.steps.specs.declared.pair.PairStep.TheVariants.{Ends, Takes}
 use Rattle.text_lines.specs.declared.LineAt.{LineAt}
@@ -63,7 +59,7 @@ pair-at-is ended f s p {l} {k} w v z =
 module _ (m : Step the.Pair) (s : List ℕ) (p : ℕ) (k : LineAt) (b ms es xs b' ms' es' xs' : List ℕ)
     (h : k.next ≡ next_line s (next_line s p)) (i : k.next ≤ length s) (j : 1 ≤ k.ends → p < k.next) where
   from_parts : (ended : Bool) (body : Body) (u : ℕ) (q : the.Pair) → BodyIs q body b ms es xs b' ms' es' xs'
-      → m ≡ step_of ended p (k.end - p) k.ends k.next (is q u) → StepSays m s p (step_from (Pair body u) p k ended) b ms es xs b' ms' es' xs'
+      → m ≡ step_of ended p (k.end - p) k.ends k.next (is q u) → StepSays m s p (step_from (Some (record { body = body; used = u })) p k ended) b ms es xs b' ms' es' xs'
   from_parts ended body u q w e = go (eqb u (k.end - p) && leb 1 k.ends) ended refl e
     where
       go : (x y : Bool) → (eqb u (k.end - p) && leb 1 k.ends) ≡ x
@@ -74,7 +70,7 @@ module _ (m : Step the.Pair) (s : List ℕ) (p : ℕ) (k : LineAt) (b ms es xs b
       go false false f v = record { pair = q; step = sym v; behind = h; inside = i; more = λ z. absurd (let y : ◌≡◌ {A = ℕ} 0 1 = cc in omega arith); body_is = w }
 
 module _ (ended : Bool) (f : Form) (s : List ℕ) (p : ℕ) {l : LineAt} (w : LineIs s p l) where
-  module _ (z : l.ends ≡ 0 → ⊥) {k : LineAt} (v : LineIs s l.next k) {o : PairLine} {b ms es xs b' ms' es' xs' : List ℕ}
+  module _ (z : l.ends ≡ 0 → ⊥) {k : LineAt} (v : LineIs s l.next k) {o : Option PairLine} {b ms es xs b' ms' es' xs' : List ℕ}
       (m : PairIs (pair_here f s p l k) o b ms es xs b' ms' es' xs') where
     pub pstep-1 : {r : PairStep} → r ≡ step_from o p k ended → PairStepIs ended f s p r b ms es xs b' ms' es' xs'
     pstep-1 e = rw e (record { says = go o m.says })
@@ -86,11 +82,11 @@ module _ (ended : Bool) (f : Form) (s : List ℕ) (p : ℕ) {l : LineAt} (w : Li
         no (is q u) h = absurd (let y : ◌≡◌ {A = ℕ} 0 1 = cc in omega arith)
         no (isnt r q) h = refl
 
-        go : (o : PairLine) → PairSays (pair_here f s p l k) o b ms es xs b' ms' es' xs' → StepSays (pair_at ended f s p) s p (step_from o p k ended) b ms es xs b' ms' es' xs'
-        go NoPair y = sym (at ∙ no (pair_here f s p l k) y)
-        go (Pair body u) y =
+        go : (o : Option PairLine) → PairSays (pair_here f s p l k) o b ms es xs b' ms' es' xs' → StepSays (pair_at ended f s p) s p (step_from o p k ended) b ms es xs b' ms' es' xs'
+        go None y = sym (at ∙ no (pair_here f s p l k) y)
+        go (Some q) y =
             let behind : k.next ≡ next_line s (next_line s p) = rw (← w.behind) v.behind in
-            from_parts (pair_at ended f s p) s p k b ms es xs b' ms' es' xs' behind v.inside (λ h. omega (arith, w.from, w.width, v.from, v.width)) ended body u y.pair y.body_is (at ∙ rw y.read)
+            from_parts (pair_at ended f s p) s p k b ms es xs b' ms' es' xs' behind v.inside (λ h. omega (arith, w.from, w.width, v.from, v.width)) ended q.body q.used y.pair y.body_is (at ∙ rw y.read)
 
 -- what is left in what was lent
 module _ (f : Form) (s : List ℕ) {p : ℕ} {l : LineAt} (w : LineIs s p l) where
@@ -131,16 +127,16 @@ module _ (f : Form) (s : List ℕ) (p q r u : ℕ) (h : p ≤ q) (i : q ≤ r) (
       go (is b n) w = omega (arith, w, wide-one, long-two)
       go (isnt x y) w = tt
 
-pub used-in : (f : Form) (s : List ℕ) (p q r u : ℕ) {o : PairLine} {b ms es xs b' ms' es' xs' : List ℕ}
+pub used-in : (f : Form) (s : List ℕ) (p q r u : ℕ) {o : Option PairLine} {b ms es xs b' ms' es' xs' : List ℕ}
     → PairIs (pair_of f (r - p) (take (q - p) (drop p s)) (take (u - r) (drop r s))) o b ms es xs b' ms' es' xs'
     → p ≤ q → q ≤ r → r ≤ u → u ≤ length s → length s < 2 ^ 64 → UsedIn p o
 used-in f s p q r u {o} {b} {ms} {es} {xs} {b'} {ms'} {es'} {xs'} m h i j k l = record { bounds = go o m.says }
   where
-    go : (o : PairLine) → PairSays (pair_of f (r - p) (take (q - p) (drop p s)) (take (u - r) (drop r s))) o b ms es xs b' ms' es' xs' → UsedBounds p o
-    go (Pair body n) y =
-        let w : p + n ≤ length s = subst (Holds (λ (b : the.Pair) (n : ℕ). p + n ≤ length s)) y.read (pair_inside f s p q r u h i j k) in
+    go : (o : Option PairLine) → PairSays (pair_of f (r - p) (take (q - p) (drop p s)) (take (u - r) (drop r s))) o b ms es xs b' ms' es' xs' → UsedBounds p o
+    go (Some o) y =
+        let w : p + o.used ≤ length s = subst (Holds (λ (b : the.Pair) (n : ℕ). p + n ≤ length s)) y.read (pair_inside f s p q r u h i j k) in
         omega arith
-    go NoPair y = tt
+    go None y = tt
 
 -- the second line ends inside the text
 module _ (s : List ℕ) {p : ℕ} {l : LineAt} (w : LineIs s p l) where
@@ -148,8 +144,8 @@ module _ (s : List ℕ) {p : ℕ} {l : LineAt} (w : LineIs s p l) where
   second-wide {k} v h = omega (arith, part-long s v, w.from, w.width, v.from, end-in s v)
 
 -- `any_pair`: where no full line end stands behind the first line there is no pair, and nothing is written
-module _ (s : List ℕ) (p : ℕ) {x : PairPlaces} (a : PlacesAre s p x) where
-  module _ (e : x ≡ Alone) where
+module _ (s : List ℕ) (p : ℕ) {x : Option PairPlaces} (a : PlacesAre s p x) where
+  module _ (e : x ≡ None) where
     no_end : end_at s p ≡ 0
     no_end = rw e at a.says
 
@@ -161,46 +157,46 @@ module _ (s : List ℕ) (p : ℕ) {x : PairPlaces} (a : PlacesAre s p x) where
     left_alone f b ms es xs = record { bytes = rw no_end; rows = record { of-modes = rw no_end; of-entries = rw no_end; of-indexes = rw no_end } }
 
   -- else both lines stand in the text
-  module _ {l k : LineAt} (e : x ≡ Lines l k) where
-    lines_at : LinesAt s p l k
+  module _ {both : PairPlaces} (e : x ≡ Some both) where
+    lines_at : LinesAt s p both.first both.second
     lines_at = rw e at a.says
 
-    first : LineIs s p l
+    first : LineIs s p both.first
     first = line-in s lines_at.first lines_at.within
 
-    second : LineIs s l.next k
+    second : LineIs s both.first.next both.second
     second = line-in s lines_at.second first.inside
 
-    pub first-from : p ≤ l.end
+    pub first-from : p ≤ both.first.end
     first-from = first.from
 
-    pub first-in : l.end ≤ length s
+    pub first-in : both.first.end ≤ length s
     first-in = end-in s first
 
-    pub first_next : l.end ≤ l.next
+    pub first_next : both.first.end ≤ both.first.next
     first_next = omega (arith, first.width)
 
-    pub next-from : p ≤ l.next
+    pub next-from : p ≤ both.first.next
     next-from = omega (arith, first.from, first.width)
 
-    pub second_from : l.next ≤ k.end
+    pub second_from : both.first.next ≤ both.second.end
     second_from = second.from
 
-    pub second-in : k.end ≤ length s
+    pub second-in : both.second.end ≤ length s
     second-in = end-in s second
 
-    pub second-behind : p ≤ k.end
+    pub second-behind : p ≤ both.second.end
     second-behind = omega (arith, next-from, second.from)
 
-    pub both-wide : length s < 2 ^ 64 → l.next - p + length (take (k.end - l.next) (drop l.next s)) < 2 ^ 64
+    pub both-wide : length s < 2 ^ 64 → both.first.next - p + length (take (both.second.end - both.first.next) (drop both.first.next s)) < 2 ^ 64
     both-wide h = second-wide s first second h
 
-    module _ (f : Form) {o : PairLine} {b ms es xs b' ms' es' xs' : List ℕ} (m : PairIs (pair_here f s p l k) o b ms es xs b' ms' es' xs') where
-      pub pstep-lines : (ended : Bool) {r : PairStep} → r ≡ step_from o p k ended → PairStepIs ended f s p r b ms es xs b' ms' es' xs'
+    module _ (f : Form) {o : Option PairLine} {b ms es xs b' ms' es' xs' : List ℕ} (m : PairIs (pair_here f s p both.first both.second) o b ms es xs b' ms' es' xs') where
+      pub pstep-lines : (ended : Bool) {r : PairStep} → r ≡ step_from o p both.second ended → PairStepIs ended f s p r b ms es xs b' ms' es' xs'
       pstep-lines ended g = pstep-1 ended f s p first lines_at.ended second m g
 
     pub left-lines : (f : Form) {b ms es xs b' ms' es' xs' : List ℕ}
-        → Left (content_line f (take (l.end - p) (drop p s)) 0) (whole_content f (take (l.end - p) (drop p s))) (relocation_line f (take (k.end - l.next) (drop l.next s)) 0) b ms es xs b' ms' es' xs'
+        → Left (content_line f (take (both.first.end - p) (drop p s)) 0) (whole_content f (take (both.first.end - p) (drop p s))) (relocation_line f (take (both.second.end - both.first.next) (drop both.first.next s)) 0) b ms es xs b' ms' es' xs'
         → LeftAt f s p b ms es xs b' ms' es' xs'
     left-lines f d = left-some f s first lines_at.ended second d
 
@@ -209,22 +205,22 @@ pub ruleset lefts-at = (rules, left_alone, left-lines)
 pub ruleset psteps = (rules, pstep-alone, first-from, first-in, first_next, next-from, second_from, second-in, second-behind, both-wide, pstep-lines)
 
 -- `step_from`
-module _ {o : PairLine} (p : ℕ) (k : LineAt) (ended : Bool) where
-  pub from-none : o ≡ NoPair → Ends ≡ step_from o p k ended
+module _ {o : Option PairLine} (p : ℕ) (k : LineAt) (ended : Bool) where
+  pub from-none : o ≡ None → Ends ≡ step_from o p k ended
   from-none e = rw e
 
-  module _ {body : Body} {u : ℕ} (e : o ≡ Pair body u) where
-    pub from-fits : UsedIn p o → Fit64 w64 (p + u)
+  module _ {l : PairLine} (e : o ≡ Some l) where
+    pub from-fits : UsedIn p o → Fit64 w64 (p + l.used)
     from-fits w = record { fits = omega (arith, rw e at w.bounds) }
 
-    module _ {r : LineStep} (h : r ≡ line_step ended u (k.end - p) k.ends k.next (p + u)) where
-      pub from_goes : {x : ℕ} → r ≡ Goes x → Takes body x k.next true ≡ step_from o p k ended
+    module _ {r : LineStep} (h : r ≡ line_step ended l.used (k.end - p) k.ends k.next (p + l.used)) where
+      pub from_goes : {x : ℕ} → r ≡ Goes x → Takes l.body x k.next true ≡ step_from o p k ended
       from_goes i = rw (e, ← h, i)
 
       pub from-ends : r ≡ Stops → Ends ≡ step_from o p k ended
       from-ends i = rw (e, ← h, i)
 
-      pub from_last : {x : ℕ} → r ≡ Last x → Takes body x k.next false ≡ step_from o p k ended
+      pub from_last : {x : ℕ} → r ≡ Last x → Takes l.body x k.next false ≡ step_from o p k ended
       from_last i = rw (e, ← h, i)
 
 pub ruleset froms = (rules, from-none, from-fits, from_goes, from-ends, from_last)

@@ -11,8 +11,9 @@ use Rattle.format.specs.Pairs as the
 use Rattle.laws.specs.Places.{next_line, pair_at}
 use Rattle.entry_line.specs.Told.{entry_of}
 use Rattle.entry_line.specs.declared.Entry.{Entry}
-use Rattle.entry_line.specs.declared.EntryLine.{EntryLine}
-use Rattle.entry_line.specs.declared.EntryLine.TheVariants.{Is, No}
+use Rattle.std.specs.Prelude.{Result, Ok, Err}
+use Rattle.numbers.specs.declared.Halt.{Halt}
+use Rattle.numbers.specs.declared.Read.{Read}
 use Rattle.entry_line.proofs.Unique.{one-entry-line}
 use Rattle.steps.specs.Entries.{told_step, StepBounds, StepIn}
 use Rattle.steps.specs.PairLines.{BodyIs, StepSays, PairStepIs}
@@ -23,13 +24,13 @@ use Rattle.steps.specs.declared.pair.Body.TheVariants.{Skipped, Placed}
 use Rattle.steps.specs.declared.pair.PairStep.{PairStep}
 use Rattle.steps.specs.declared.pair.PairStep.TheVariants as of
 
-entry-of : EntryLine → Entry → Entry
-entry-of (Is e u) d = e
-entry-of (No r p) d = d
+entry-of : Result (Read Entry) Halt → Entry → Entry
+entry-of (Ok r) d = r.value
+entry-of (Err h) d = d
 
 one_entry : (a b : Entry) → entry_of a ≡ entry_of b → a ≡ b
 unfolding entry-of
-one_entry a b e = ap (λ (l : EntryLine). entry-of l a) (one-entry-line (Is a 0) (Is b 0) (rw e))
+one_entry a b e = ap (λ (l : Result (Read Entry) Halt). entry-of l a) (one-entry-line (Ok (record { value = a; next = 0 })) (Ok (record { value = b; next = 0 })) (rw e))
 
 -- what a step takes
 body_of : {A : Type 0} → A → Step A → A

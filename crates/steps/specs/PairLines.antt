@@ -1,6 +1,6 @@
 -- The answers about a pair of lines, as the definition's ones.
 -- Assumes nothing.
-use Rattle.std.specs.Prelude.{ℕ, ◌+◌, ◌-◌, ◌^◌, ◌≤◌, ◌<◌, ◌≡◌, Bool, true, false, List, [], length, eqb}
+use Rattle.std.specs.Prelude.{ℕ, ◌+◌, ◌-◌, ◌^◌, ◌≤◌, ◌<◌, ◌≡◌, Bool, true, false, List, [], length, eqb, Option, Some, None}
 use Rattle.std.proofs.lemmas.List.Edits.{sets}
 use Rattle.format.specs.Lists.{pick}
 use Rattle.format.specs.Got.{Got, is, isnt}
@@ -17,7 +17,6 @@ use Rattle.text_lines.specs.declared.LineAt.{LineAt}
 use Rattle.steps.specs.declared.pair.Body.{Body}
 use Rattle.steps.specs.declared.pair.Body.TheVariants.{Skipped, Placed}
 use Rattle.steps.specs.declared.pair.PairLine.{PairLine}
-use Rattle.steps.specs.declared.pair.PairLine.TheVariants.{Pair, NoPair}
 use Rattle.steps.specs.declared.pair.PairStep.{PairStep}
 use Rattle.steps.specs.declared.pair.PairStep.TheVariants.{Ends, Takes}
 
@@ -31,9 +30,9 @@ case_of (is a u) = upto u
 case_of (isnt r p) = none
 
 -- a pair that is skipped, or none
-abbrev pub line_of : Case → PairLine
-line_of (upto u) = Pair Skipped u
-line_of none = NoPair
+abbrev pub line_of : Case → Option PairLine
+line_of (upto u) = Some (record { body = Skipped; used = u })
+line_of none = None
 
 -- a body, and the pair that it tells of, whose lists stand in what was lent
 pub record PlacedIs (c : the.Content) (r : the.Relocation) (a n ar k : ℕ) (b ms es xs b' ms' es' xs' : List ℕ) : Type 0 where
@@ -55,11 +54,11 @@ pub record PairOf (m : Got the.Pair) (body : Body) (u : ℕ) (b ms es xs b' ms' 
   pub read : m ≡ is pair u
   pub body_is : BodyIs pair body b ms es xs b' ms' es' xs'
 
-abbrev pub PairSays : Got the.Pair → PairLine → (b ms es xs b' ms' es' xs' : List ℕ) → Type 0
-PairSays m (Pair body u) b ms es xs b' ms' es' xs' = PairOf m body u b ms es xs b' ms' es' xs'
-PairSays m NoPair b ms es xs b' ms' es' xs' = case_of m ≡ none
+abbrev pub PairSays : Got the.Pair → Option PairLine → (b ms es xs b' ms' es' xs' : List ℕ) → Type 0
+PairSays m (Some l) b ms es xs b' ms' es' xs' = PairOf m l.body l.used b ms es xs b' ms' es' xs'
+PairSays m None b ms es xs b' ms' es' xs' = case_of m ≡ none
 
-pub record PairIs (m : Got the.Pair) (r : PairLine) (b ms es xs b' ms' es' xs' : List ℕ) : Type 0 where
+pub record PairIs (m : Got the.Pair) (r : Option PairLine) (b ms es xs b' ms' es' xs' : List ℕ) : Type 0 where
   pub says : PairSays m r b ms es xs b' ms' es' xs'
 
 -- the fragments that are stored: those of the R line, if the T line was read
@@ -86,11 +85,11 @@ pub record LeftAt (f : Form) (text : List ℕ) (p : ℕ) (b ms es xs b' ms' es' 
   pub rows : Rows (fragments_at f text p) ms es xs ms' es' xs'
 
 -- what a pair used, from a place on, can be counted
-abbrev pub UsedBounds : ℕ → PairLine → Type 0
-UsedBounds p (Pair body u) = p + u < 2 ^ 64
-UsedBounds p NoPair = Unit {0}
+abbrev pub UsedBounds : ℕ → Option PairLine → Type 0
+UsedBounds p (Some l) = p + l.used < 2 ^ 64
+UsedBounds p None = Unit {0}
 
-pub record UsedIn (p : ℕ) (l : PairLine) : Type 0 where
+pub record UsedIn (p : ℕ) (l : Option PairLine) : Type 0 where
   pub bounds : UsedBounds p l
 
 -- what a pair does to group two, by the step of its lines
@@ -100,9 +99,9 @@ step_on body next (Goes end) = Takes body end next true
 step_on body next (Last end) = Takes body end next false
 
 -- what a pair from p, whose second line is k, does to group two
-abbrev pub step_from : PairLine → ℕ → LineAt → Bool → PairStep
-step_from NoPair p k ended = Ends
-step_from (Pair body u) p k ended = step_on body k.next (line_step ended u (k.end - p) k.ends k.next (p + u))
+abbrev pub step_from : Option PairLine → ℕ → LineAt → Bool → PairStep
+step_from None p k ended = Ends
+step_from (Some l) p k ended = step_on l.body k.next (line_step ended l.used (k.end - p) k.ends k.next (p + l.used))
 
 -- a step with its pair
 abbrev pub step_to : Bool → ℕ → ℕ → the.Pair → Step the.Pair

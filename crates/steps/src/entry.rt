@@ -5,7 +5,7 @@ ghost use Rattle.header.specs.Told.{form_of};
 ghost use Rattle.steps.specs.Entries.{told_step, StepIn};
 
 use crate::lines::line_at;
-use entry_line::{Entry, EntryLine};
+use entry_line::Entry;
 use header::Form;
 use line_step::{LineStep, line_step};
 
@@ -31,20 +31,21 @@ pub fn entry_step(t: &[u8], p: usize, form: Form, ended: bool) -> EntryStep
     }
     let l = line_at(t, p);
     let q = l.end;
-    let EntryLine::Is { entry, used } = entry_line::parse_entry(&t[p..q], form) else {
+    let Ok(entry) = entry_line::parse_entry(&t[p..q], form) else {
         return EntryStep::Stops;
     };
+    let used = entry.next;
     match line_step(used, q - p, l.ends, l.next, p + used, ended) {
         LineStep::Stops => EntryStep::Stops,
         LineStep::Goes { end } => EntryStep::Takes {
-            entry: entry,
-            end: end,
+            entry: entry.value,
+            end,
             next: l.next,
             on: true,
         },
         LineStep::Last { end } => EntryStep::Takes {
-            entry: entry,
-            end: end,
+            entry: entry.value,
+            end,
             next: l.next,
             on: false,
         },

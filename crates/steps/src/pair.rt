@@ -3,14 +3,11 @@ ghost use Rattle.std.specs.Prelude.{◌≡◌, ◌&&◌, ◌≤◌, ◌<◌, ◌
 ghost use Rattle.format.specs.Pairs.{content_line, whole_content, relocation_line, skipped_of, pair_of};
 ghost use Rattle.header.specs.Told.{form_of};
 ghost use Rattle.steps.specs.PairLines.{line_of, case_of, Left, LeftAt, PairIs, PairStepIs, UsedIn, step_from};
-ghost use Rattle.steps.specs.declared.pair.Body.TheVariants.{Placed};
-ghost use Rattle.steps.specs.declared.pair.PairLine.TheVariants.{Pair};
 
-use empty_pair::{Empty, empty_pair};
+use empty_pair::empty_pair;
 use header::Form;
 use line_step::{LineStep, line_step, record_end};
-use pair_line::{ContentLine, RelocationLine};
-use pair_places::{PairPlaces, pair_places};
+use pair_places::pair_places;
 use text_lines::LineAt;
 
 // What a pair is. Its content stands in the lent bytes, its fragments in the lent columns.
@@ -25,11 +22,11 @@ pub enum Body {
     },
 }
 
-// A pair with how many bytes of the text it used, or none.
+// A pair with how many bytes of the text it used.
 #[derive(Clone, Copy)]
-enum PairLine {
-    Pair { body: Body, used: usize },
-    NoPair,
+struct PairLine {
+    body: Body,
+    used: usize,
 }
 
 // What two lines do to group two: they end it, or are taken; then where their record ends, where the next line begins, and whether the reading goes on there.
@@ -48,45 +45,24 @@ pub enum PairStep {
 fn any_line(t: &[u8], letter: u8) -> bool
     ensures { result ≡ (eqb (get_or t.now 0 0) letter && leb 2 (length t.now)) }
 {
-    if scan::byte_at(t, 0) == letter {
-        return 2 <= t.len();
-    }
-    false
+    scan::byte_at(t, 0) == letter && 2 <= t.len()
 }
 
-// A T line and a P line.
-fn skipped_pair(a: &[u8], b: &[u8], width: usize) -> PairLine
+// A T line and a P line, if both are.
+fn skipped_pair(a: &[u8], b: &[u8], width: usize) -> Option<PairLine>
     requires { width + length b.now < 2 ^ 64 }
     ensures { result ≡ line_of (case_of (skipped_of width a.now b.now)) }
 {
-    if any_line(a, b'T') {
-        if any_line(b, b'P') {
-            return PairLine::Pair {
-                body: Body::Skipped,
-                used: width + b.len(),
-            };
-        }
+    if any_line(a, b'T') && any_line(b, b'P') {
+        return Some(PairLine {
+            body: Body::Skipped,
+            used: width + b.len(),
+        });
     }
-    PairLine::NoPair
+    None
 }
 
-// A T line and an R line that were read.
-fn placed_pair(address: u32, count: usize, area: u32, fragments: usize, used: usize) -> PairLine
-    ensures { result ≡ Pair (Placed address count area fragments) used }
-{
-    let body = Body::Placed {
-        address: address,
-        count: count,
-        area: area,
-        fragments: fragments,
-    };
-    PairLine::Pair {
-        body: body,
-        used: used,
-    }
-}
-
-// The pair of a line and the line behind it; places count from the first, whose width with its line end is given.
+// The pair of a line and the line behind it, if they are one; places count from the first, whose width with its line end is given.
 fn read_pair(
     a: &[u8],
     b: &[u8],
@@ -96,51 +72,47 @@ fn read_pair(
     ms: &mut [u32; 64],
     es: &mut [u32; 64],
     xs: &mut [u32; 64],
-) -> PairLine
+) -> Option<PairLine>
     requires { width + length b.now < 2 ^ 64 }
     ensures pair_is { PairIs (pair_of (form_of form) width a.now b.now) result bytes.old ms.old es.old xs.old bytes.new ms.new es.new xs.new }
     ensures left { Left (content_line (form_of form) a.now 0) (whole_content (form_of form) a.now) (relocation_line (form_of form) b.now 0) bytes.old ms.old es.old xs.old bytes.new ms.new es.new xs.new }
 {
-    let c = pair_line::whole_content(a, form, bytes);
-    let ContentLine::Content {
-        address,
-        count,
-        used: _,
-    } = c
-    else {
+    let Ok(content) = pair_line::whole_content(a, form, bytes) else {
         return skipped_pair(a, b, width);
     };
-    let r = pair_line::parse_reloc_line(b, form, ms, es, xs);
-    let RelocationLine::Relocation {
-        area,
-        count: fragments,
-        used,
-    } = r
-    else {
+    let Ok(relocation) = pair_line::parse_reloc_line(b, form, ms, es, xs) else {
         return skipped_pair(a, b, width);
     };
-    placed_pair(address, count, area, fragments, width + used)
+    Some(PairLine {
+        body: Body::Placed {
+            address: content.address,
+            count: content.count,
+            area: relocation.area,
+            fragments: relocation.count,
+        },
+        used: width + relocation.used,
+    })
 }
 
 // What a pair that starts at p and whose second line is k does to group two.
-fn step_from(line: PairLine, p: usize, k: LineAt, ended: bool) -> PairStep
+fn step_from(line: Option<PairLine>, p: usize, k: LineAt, ended: bool) -> PairStep
     requires { (p ≤ k.end) × (UsedIn p line) }
     ensures { result ≡ step_from line p k ended }
 {
-    let PairLine::Pair { body, used } = line else {
+    let Some(PairLine { body, used }) = line else {
         return PairStep::Ends;
     };
     match line_step(used, k.end - p, k.ends, k.next, p + used, ended) {
         LineStep::Stops => PairStep::Ends,
         LineStep::Goes { end } => PairStep::Takes {
-            body: body,
-            end: end,
+            body,
+            end,
             next: k.next,
             on: true,
         },
         LineStep::Last { end } => PairStep::Takes {
-            body: body,
-            end: end,
+            body,
+            end,
             next: k.next,
             on: false,
         },
@@ -161,11 +133,12 @@ fn any_pair(
     ensures pair_step_is { PairStepIs ended (form_of form) t.now p result bytes.old ms.old es.old xs.old bytes.new ms.new es.new xs.new }
     ensures left_at { LeftAt (form_of form) t.now p bytes.old ms.old es.old xs.old bytes.new ms.new es.new xs.new }
 {
-    let PairPlaces::Lines { first, second } = pair_places(t, p) else {
+    let Some(places) = pair_places(t, p) else {
         return PairStep::Ends;
     };
-    let q = first.end;
-    let r = first.next;
+    let second = places.second;
+    let q = places.first.end;
+    let r = places.first.next;
     let s = second.end;
     let line = read_pair(&t[p..q], &t[r..s], r - p, form, bytes, ms, es, xs);
     step_from(line, p, second, ended)
@@ -186,17 +159,17 @@ pub fn pair_step(
     ensures left_at { LeftAt (form_of form) t.now p bytes.old ms.old es.old xs.old bytes.new ms.new es.new xs.new }
 {
     match empty_pair(t, p, form) {
-        Empty::Is { address, area } => PairStep::Takes {
+        Some(empty) => PairStep::Takes {
             body: Body::Placed {
-                address: address,
+                address: empty.address,
                 count: 0,
-                area: area,
+                area: empty.area,
                 fragments: 0,
             },
             end: record_end(ended, p + 25, p + 24),
             next: p + 25,
             on: true,
         },
-        Empty::Other => any_pair(t, p, form, ended, bytes, ms, es, xs),
+        None => any_pair(t, p, form, ended, bytes, ms, es, xs),
     }
 }

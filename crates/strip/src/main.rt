@@ -5,7 +5,7 @@ mod module;
 mod names;
 mod told;
 
-use console::{Input, Request, Room};
+use console::{Request, Room};
 use host::Host;
 use module::Asked;
 use rooms::INPUT_ROOM;
@@ -20,8 +20,8 @@ fn strip_first(rt: &impl Env, room: &Room, n: usize, asked: Asked) {
 fn strip_standard(rt: &impl Host, asked: Asked) {
     let mut room = [0u8; INPUT_ROOM];
     match console::fill(&mut rt.reader(), &mut room) {
-        Input::Failed(why) => console::tell_reason(b"-", why),
-        Input::Text(n) => strip_first(rt, &room, n, asked),
+        Err(why) => console::tell_reason(b"-", why),
+        Ok(n) => strip_first(rt, &room, n, asked),
     }
 }
 
@@ -30,12 +30,6 @@ fn main(rt: HostRuntime) {
     match console::asked(&rt, count) {
         Request::Help => told::help(),
         Request::Unknown(i) => told::unknown(&rt, i),
-        Request::Work(end) => strip_standard(
-            &rt,
-            Asked {
-                end: end,
-                count: count,
-            },
-        ),
+        Request::Work(end) => strip_standard(&rt, Asked { end, count }),
     }
 }

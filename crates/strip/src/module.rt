@@ -1,17 +1,14 @@
 // A module without the symbols that the arguments name.
 use crate::names;
 use crate::names::Flags;
-use answer::{Answer, Counts, Verdict};
-use change_answer::Told;
+use answer::{Counts, Verdict};
 use changes_of::changes_of;
 use header::Head;
 use kept_symbols::other_change;
-use pairs_answer::PairsAnswer;
 use rooms::{AREA_ROOM, FIXUP_ROOM, IMAGE_ROOM, SYMBOL_ROOM, TEXT_ROOM};
 use staying_indexes::count_down;
 use staying_rows::keep_rows;
 use std::env::Env;
-use written_answer::Written;
 
 // How many arguments there are, and where the options end.
 #[derive(Clone, Copy)]
@@ -24,8 +21,8 @@ pub(crate) struct Asked {
 fn only_symbols_went(text: &[u8], left: &[u8]) -> bool {
     let mut list = [0u32; 8192];
     match changes_of(text, left, &mut list) {
-        Told::Rows { rows } => rows <= other_change(&list, rows),
-        _ => false,
+        Ok(rows) => rows <= other_change(&list, rows),
+        Err(_) => false,
     }
 }
 
@@ -68,8 +65,8 @@ fn write_left(
         fragments,
         &mut out,
     ) {
-        Written::Refusal { number, place } => console::tell_number(b"-", number as usize, place),
-        Written::Bytes { count } => hand_over(text, sink::first_bytes(&out, count)),
+        Err(why) => console::tell_number(b"-", why.number as usize, why.place),
+        Ok(count) => hand_over(text, sink::first_bytes(&out, count)),
     }
 }
 
@@ -85,12 +82,8 @@ fn strip_marked(
     let mut content = [0u8; 32768];
     let mut fragments = [0u32; 24576];
     match records::read_pairs(text, &mut pairs, &mut content, &mut fragments) {
-        PairsAnswer::Refusal { number, place } => console::tell_number(
-            b"-",
-            number as usize,
-            place,
-        ),
-        PairsAnswer::Accepted { counts: n } => {
+        Err(refusal) => console::tell_number(b"-", refusal.number as usize, refusal.place),
+        Ok(n) => {
             if names::all_free(
                 text,
                 symbols,
@@ -146,10 +139,10 @@ pub(crate) fn strip_text(rt: &impl Env, text: &[u8], asked: Asked) {
         &mut masks,
         &mut fixups,
     ) {
-        Answer::Refusal { number, place } => console::tell_number(b"-", number as usize, place),
-        Answer::Accepted { counts, verdict } => match verdict {
+        Err(refusal) => console::tell_number(b"-", refusal.number as usize, refusal.place),
+        Ok(told) => match told.verdict {
             Verdict::Stopped { place } => console::tell_place(b"-", place),
-            Verdict::Finished => strip_read(rt, text, asked, counts, &areas, &symbols),
+            Verdict::Finished => strip_read(rt, text, asked, told.counts, &areas, &symbols),
         },
     }
 }

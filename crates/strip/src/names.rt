@@ -49,12 +49,10 @@ pub(crate) fn mark_all(
     flags: &mut Flags,
 ) -> bool {
     let mut all = true;
-    let mut i = 1;
-    while i < count {
+    for i in 1..count {
         if i != end && !mark_argument(rt, text, symbols, n, i, flags) {
             all = false;
         }
-        i += 1;
     }
     all
 }
@@ -69,13 +67,11 @@ pub(crate) fn all_free(
     flags: &Flags,
 ) -> bool {
     let mut free = true;
-    let mut j = 0;
-    while j < n {
+    for j in 0..n {
         if cells::byte_at(flags, j) == 1 && referring(fragments, m, j) < m {
             console::tell_words(symbol_name(text, symbols, j), b"an R line refers to it");
             free = false;
         }
-        j += 1;
     }
     free
 }

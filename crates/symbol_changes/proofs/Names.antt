@@ -1,14 +1,14 @@
 -- The laws of the symbols.
 -- Assumes nothing.
-use Prim.Native.Nat.{ℕ, zero, suc, ◌+◌, ◌-◌, ◌<◌, ◌≤◌}
+use Prim.Native.Nat.{ℕ, suc, ◌+◌, ◌-◌, ◌<◌, ◌≤◌}
 use mathlib.Core.Path.{◌≡◌, refl, ap, subst, sym, ◌∙◌}
 use mathlib.Core.Bool.{Bool, true, false}
-use mathlib.Core.List.{List, [], ◌∷◌, ◌++◌, append-nil}
-use mathlib.Core.Option.{Option, none, some}
+use mathlib.Core.List.{List, [], ◌∷◌, ◌++◌}
+use mathlib.Core.Option.{none, some}
 use native.Mathlib.Omega.{arith}
 use native.Mathlib.Numerals.{add-one}
-use lib.ListN.{length, length-append, replicate}
-use lib.Dec.{eqb, leb, ltb}
+use lib.ListN.{replicate}
+use lib.Dec.{eqb, leb}
 use borrow.Author.Rules.{rules}
 use borrow.Author.Tests.{eq-eqb, ne_eqb, lt-ltb, le-ltb, leb-true, leb-false}
 use Rattle.format.specs.Lists.{pick}
@@ -17,12 +17,11 @@ use Rattle.row_parts.specs.Parts.{name_in}
 use Rattle.alike.specs.Looked.{first_of}
 use Rattle.name_index.specs.Index.{found_in, indexed, name_at, named_at}
 use Rattle.name_index.proofs.Indexed.{the-index-finds-the-first}
-use Rattle.difference.specs.Module.{At, Named}
 use Rattle.difference.specs.Changes.{Change, newer, older, only_new, symbol, value, value_change}
 use Rattle.difference.specs.Rows.{change_numbers}
 use Rattle.change_rows.specs.Room.{few_of}
 use Rattle.change_rows.proofs.Room.{few-all, few-is, walk-left, walk-taken}
-use Rattle.change_rows.specs.Walk.{Added, Walked, WalkedIf}
+use Rattle.change_rows.specs.Walk.{Put, Walked, WalkedIf}
 use Rattle.symbol_sides.specs.Sides.{on_one_side}
 use Rattle.symbol_changes.specs.Here.{first_in, gathered, is_first, new_here, old_here, symbol_here, value_here}
 use Rattle.change_rows.proofs.Going.{Going, going_end, going_start, going_step, no_row, one-row, put-added, walked_both}
@@ -33,9 +32,9 @@ module _ (xs : List ℕ) (i : ℕ) (ys : List ℕ) (j : ℕ) (w : Bool) (list : 
   unfolding value_here
   values_same g = no_row w list n (value_here xs i ys j) 1 (ap (λ (c : Bool). pick c [] (value i j ∷ [])) (sym e ∙ g))
 
-  pub values_other : b ≡ false → {x y : ℕ} → x ≡ i → y ≡ j → {r : ℕ} {after : List ℕ} → Added w list n (7 ∷ 0 ∷ x ∷ y ∷ 0 ∷ 0 ∷ 0 ∷ 0 ∷ []) r after → Walked w list n (value_here xs i ys j) 1 r after
+  pub values_other : b ≡ false → n < 4294967296 → {o x y u v z : ℕ} {r : ℕ} {after : List ℕ} → Put w list n (7 ∷ o ∷ x ∷ y ∷ u ∷ v ∷ z ∷ 0 ∷ []) r after → x ≡ i → y ≡ j → o ≡ 0 → u ≡ 0 → v ≡ 0 → z ≡ 0 → Walked w list n (value_here xs i ys j) 1 r after
   unfolding value_here change_numbers
-  values_other g p q h = one-row h (value i j) (rw (p, q)) (value_here xs i ys j) (ap (λ (c : Bool). pick c [] (value i j ∷ [])) (sym e ∙ g))
+  values_other g low h p q a b c d = one-row (put-added low h) (value i j) (rw (p, q, a, b, c, d)) (value_here xs i ys j) (ap (λ (c : Bool). pick c [] (value i j ∷ [])) (sym e ∙ g))
 
 pub ruleset sames = (rules, values_same, values_other)
 
@@ -92,9 +91,9 @@ module _ (s xs : List ℕ) (m : ℕ) (t ys : List ℕ) (n i : ℕ) (w : Bool) (l
     pub old-both : j < n → {r : ℕ} {after : List ℕ} → Walked w list count (value_here xs i ys j) 1 r after → Walked w list count (old_here s xs m t ys n i) 1 r after
     old-both u {r} {after} a = subst (λ (cs : List Change). Walked w list count cs 1 r after) (sym (old-there u)) a
 
-    pub old-only : n ≤ j → {y : ℕ} → y ≡ i → {r : ℕ} {after : List ℕ} → Added w list count (8 ∷ 0 ∷ y ∷ 0 ∷ 0 ∷ 0 ∷ 0 ∷ 0 ∷ []) r after → Walked w list count (old_here s xs m t ys n i) 1 r after
+    pub old-only : n ≤ j → count < 4294967296 → {o y a b c d : ℕ} {r : ℕ} {after : List ℕ} → Put w list count (8 ∷ o ∷ y ∷ a ∷ b ∷ c ∷ d ∷ 0 ∷ []) r after → y ≡ i → o ≡ 0 → a ≡ 0 → b ≡ 0 → c ≡ 0 → d ≡ 0 → Walked w list count (old_here s xs m t ys n i) 1 r after
     unfolding change_numbers
-    old-only u z a = one-row a (symbol older i) (rw z) (old_here s xs m t ys n i) (old-gone u)
+    old-only u low v z p0 p1 p2 p3 p4 = one-row (put-added low v) (symbol older i) (rw (z, p0, p1, p2, p3, p4)) (old_here s xs m t ys n i) (old-gone u)
 
 pub ruleset olds = (rules, old-later, old-both)
 
@@ -125,9 +124,9 @@ module _ (s xs : List ℕ) (m : ℕ) (t ys : List ℕ) (n i : ℕ) (w : Bool) (l
     pub new-not : b ≡ false → Walked w list count (new_here s xs m t ys n i) 1 count list
     new-not g = no_row w list count (new_here s xs m t ys n i) 1 (new_is ∙ ap (λ (c : Bool). pick c (symbol newer i ∷ []) []) g)
 
-    pub new-only : b ≡ true → {y : ℕ} → y ≡ i → {r : ℕ} {after : List ℕ} → Added w list count (9 ∷ 0 ∷ 0 ∷ y ∷ 0 ∷ 0 ∷ 0 ∷ 0 ∷ []) r after → Walked w list count (new_here s xs m t ys n i) 1 r after
+    pub new-only : b ≡ true → count < 4294967296 → {o y a d f h : ℕ} {r : ℕ} {after : List ℕ} → Put w list count (9 ∷ o ∷ a ∷ y ∷ d ∷ f ∷ h ∷ 0 ∷ []) r after → y ≡ i → o ≡ 0 → a ≡ 0 → d ≡ 0 → f ≡ 0 → h ≡ 0 → Walked w list count (new_here s xs m t ys n i) 1 r after
     unfolding change_numbers
-    new-only g z a = one-row a (symbol newer i) (rw z) (new_here s xs m t ys n i) (new_is ∙ ap (λ (c : Bool). pick c (symbol newer i ∷ []) []) g)
+    new-only g low v z p0 p1 p2 p3 p4 = one-row (put-added low v) (symbol newer i) (rw (z, p0, p1, p2, p3, p4)) (new_here s xs m t ys n i) (new_is ∙ ap (λ (c : Bool). pick c (symbol newer i ∷ []) []) g)
 
 pub ruleset news = (rules, new-not, new-only)
 
@@ -180,6 +179,3 @@ pub ruleset wholes = (rules, too_many, few-taken, few-all)
 pub the-symbols : {count m n : ℕ} {w : Bool} {list : List ℕ} {cs : List Change} {r : ℕ} {after : List ℕ} → count ≤ 536870912 → m ≤ 1024 → n ≤ 1024
     → WalkedIf (few_of count m n) w list count cs 2048 r after → Walked w list count cs 2048 r after
 the-symbols {count} {m} {n} h k l a = a.taken (few-is count m n h k l)
-
--- `add`
-pub ruleset adds = (rules, put-added)

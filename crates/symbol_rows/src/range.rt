@@ -21,15 +21,12 @@ fn symbol_in(symbols: &[u32], j: usize, i: usize, same: bool) -> bool
 fn past_symbols(symbols: &[u32], n: usize, from: usize, i: usize, same: bool) -> usize
     ensures { result ≡ passing (symbol_in symbols.now i same) from (n - from) }
 {
-    let mut j = from;
-    while j < n {
-        if symbol_in(symbols, j, i, same) {
-            j += 1;
-        } else {
+    for j in from..n {
+        if !symbol_in(symbols, j, i, same) {
             return j;
         }
     }
-    j
+    n.max(from)
 }
 
 // The symbols behind area i's line, among n symbols.

@@ -1,40 +1,36 @@
 -- The loop of group one: reading the rest of the lines from here, with the tables so far, gives what the whole gives.
 -- Assumes nothing.
-use Prim.Native.Nat.{ℕ, suc, ◌+◌, ◌*◌, ◌-◌, ◌<◌, ◌≤◌}
+use Prim.Native.Nat.{ℕ, ◌-◌, ◌<◌, ◌≤◌}
 use mathlib.Core.Path.{◌≡◌, refl, ap, sym, subst, ◌∙◌}
 use mathlib.Core.Bool.{Bool, true, false, not}
-use mathlib.Core.List.{List, [], ◌∷◌, ◌++◌, map, append-nil, append_assoc}
+use mathlib.Core.List.{List, [], ◌∷◌, map}
 use native.Mathlib.Omega.{arith}
-use native.Mathlib.Nat.{add-zero, suc-add, add-suc}
-use lib.ListN.{length, length-append}
+use lib.ListN.{length}
 use lib.Seq.{sets}
-use lib.Dec.{ltb}
 use borrow.Author.Rules.{rules}
-use borrow.Author.Tests.{ltb-true}
 use Rattle.format.specs.Lists.{pick, flat}
 use Rattle.format.specs.Header.{Form}
-use Rattle.format.specs.Outcome.{fine, refused, fold}
+use Rattle.format.specs.Outcome.{refused, fold}
 use Rattle.format.specs.Records.{stops, last, goes, Taken, Records, ends, last_of}
-use Rattle.format.specs.Tables.{Area, Symbol as Sym, Tables, area_row, named, last_index, add_area, add_symbol, add_body_of, add_entry, tables}
+use Rattle.format.specs.Tables.{Area, Tables, add_body_of, add_entry, tables}
 use Rattle.format.specs.Rows.{area_numbers, symbol_numbers}
 use Rattle.format.specs.Entries as entries
 use Rattle.format.specs.Pairs as pairs
 use Rattle.laws.specs.Places.{next_line, entry_at, records_at, pairs_at}
 use Rattle.laws.proofs.Places.{records-at}
 use Rattle.scan.proofs.Laws.Tests.{was-no, was-yes}
-use Rattle.entry_line.specs.Told.{entry_of, name_of, addr_of}
+use Rattle.entry_line.specs.Told.{entry_of}
 use Rattle.entry_line.specs.declared.Entry.{Entry}
-use Rattle.entry_line.specs.declared.Addr.{Addr}
 use Rattle.entry_line.specs.declared.Entry.TheVariants as of
 use Rattle.steps.specs.Entries.{told_step, StepBounds, StepIn, EntryFits, Placed}
 use Rattle.one_entry.specs.Adds.{Adds}
-use Rattle.tables.specs.GroupOne.{refusal_of, Hold, as_far, no_tables, lines_on, all_go, entry_ends, found_of, Grouped}
+use Rattle.tables.specs.GroupOne.{Hold, as_far, no_tables, lines_on, all_go, entry_ends, found_of, Grouped}
 use Rattle.steps.specs.declared.entry.EntryStep.{EntryStep}
 use Rattle.steps.specs.declared.entry.EntryStep.TheVariants.{Stops, Takes}
-use Rattle.one_entry.specs.declared.Added.{Added}
-use Rattle.one_entry.specs.declared.Added.TheVariants.{Room, Full}
+use Rattle.one_entry.specs.declared.Rows.{Rows}
+use Rattle.one_entry.specs.declared.Full.{Full}
+use Rattle.std.specs.Prelude.{Result, Ok, Err}
 use Rattle.tables.specs.declared.group.Found.{Found}
-use Rattle.tables.specs.declared.group.Listed.{Listed}
 use Rattle.tables.specs.declared.group.Listed.TheVariants.{Done, Refused, TooLong}
 use Rattle.tables.proofs.Growth.{Grown, grown, filled, kept-areas, kept-symbols}
 
@@ -126,19 +122,22 @@ module _ {ended : Bool} {f : Form} {text : List ℕ} {at head : ℕ} {xs₀ ys�
       }
 
   module _ {en : Entry} {x next : ℕ} {on : Bool} (g : st ≡ Takes en x next on) (l : StepIn text o.next st)
-      {r : Added} {xs' ys' : List ℕ} (d : Adds en o.next o.areas o.symbols xs ys r xs' ys') where
+      {r : Result Rows Full} {xs' ys' : List ℕ} (d : Adds en o.next o.areas o.symbols xs ys r xs' ys') where
     behind : next ≡ next_line text o.next
     behind = (step-all l g).1
 
-    pub rest-full : length text ≤ 65536 → {n : ℕ} → r ≡ Full n → {q : Listed} → q ≡ refusal_of r o.next → Grouped ended f text at head xs₀ ys₀ xs' ys' q
+    pub rest-full : length text ≤ 65536 → {z : Full} → r ≡ Err z → Grouped ended f text at head xs₀ ys₀ xs' ys' (Refused z.number o.next)
     unfolding Grouped fold add_entry as_far
-    rest-full s {n} h {q} i = rw (i, h) (record {
+    rest-full s {z} h = record {
       short = s;
-      says = w.entries ∙ here (λ (es : List (Taken entries.Entry)). fold add_entry w.sofar es ≡ refused n o.next) refuses;
+      says = w.entries ∙ here (λ (es : List (Taken entries.Entry)). fold add_entry w.sofar es ≡ refused z.number o.next) refuses;
       areas = kept-areas w.sofar o.next w.held en d h ∙ (w.held.areas ∙ ap (λ (t : Tables). sets xs₀ 0 (flat (area_numbers 0) t.areas)) (sym far));
       symbols = kept-symbols w.sofar o.next w.held en d h ∙ (w.held.symbols ∙ ap (λ (t : Tables). sets ys₀ 0 (flat symbol_numbers t.symbols)) (sym far));
-    })
+    }
       where
+        n : ℕ
+        n = z.number
+
         no : add_body_of w.sofar o.next (entry_of en) ≡ refused n o.next
         no = filled w.sofar o.next w.held en d h
 
@@ -159,11 +158,11 @@ module _ {ended : Bool} {f : Form} {text : List ℕ} {at head : ℕ} {xs₀ ys�
         far : as_far no_tables (records_at ended f text at).entries ≡ w.sofar
         far = w.far ∙ here (λ (es : List (Taken entries.Entry)). as_far w.sofar es ≡ w.sofar) stays
 
-    module _ {m n : ℕ} (h : r ≡ Room m n) (s : length text ≤ 65536) where
-      gr : Grown w.sofar o.next w.held en xs' ys' m n
+    module _ {z : Rows} (h : r ≡ Ok z) (s : length text ≤ 65536) where
+      gr : Grown w.sofar o.next w.held en xs' ys' z.areas z.symbols
       gr = grown w.sofar o.next w.held en (step-placed l g s) w.areas-low d h
 
-      pub rest-last : {d : Found} → d ≡ found_of m n next x on → not on ≡ true → Grouped ended f text at head xs₀ ys₀ xs' ys' (Done d)
+      pub rest-last : {d : Found} → d ≡ found_of z.areas z.symbols next x on → not on ≡ true → Grouped ended f text at head xs₀ ys₀ xs' ys' (Done d)
       unfolding Grouped fold add_entry ends lines_on all_go
       rest-last c i = rw c (
           let p = o.next in
@@ -186,7 +185,7 @@ module _ {ended : Bool} {f : Form} {text : List ℕ} {at head : ℕ} {xs₀ ys�
             symbols-low = gr.symbols-low w.symbols-low;
           })
 
-      pub rest_goes : {d : Found} → d ≡ found_of m n next x on → not on ≡ false → Rest ended f text at head xs₀ ys₀ xs' ys' d
+      pub rest_goes : {d : Found} → d ≡ found_of z.areas z.symbols next x on → not on ≡ false → Rest ended f text at head xs₀ ys₀ xs' ys' d
       unfolding fold add_entry ends lines_on all_go as_far
       rest_goes c i = rw c (
           let p = o.next in
@@ -213,16 +212,9 @@ module _ {ended : Bool} {f : Form} {text : List ℕ} {at head : ℕ} {xs₀ ys�
       → length text - d.next < length text - o.next
   rest-less {en} {x} {next} {on} g l c i = let b : on ≡ true = was-yes on i in rw c (omega (arith, (step-all l g).2, (step-all l g).3 b))
 
--- `full`
-pub full_is : {a : Added} {n : ℕ} (p : ℕ) → a ≡ Full n → Refused n p ≡ refusal_of a p
-full_is p e = rw e
-
-pub full-room : {a : Added} {m n : ℕ} (p : ℕ) → a ≡ Room m n → Refused 0 p ≡ refusal_of a p
-full-room p e = rw e
-
 -- a text that is too long
 pub too_long : (ended : Bool) (f : Form) (text : List ℕ) (at head : ℕ) (xs ys : List ℕ) → 65536 < length text → Grouped ended f text at head xs ys xs ys TooLong
 unfolding Grouped
 too_long ended f text at head xs ys h = (h, refl, refl)
 
-pub ruleset grouping = (rules, rest-start, rest-stops, rest-full, rest-last, rest_goes, rest-less, full_is, full-room, too_long)
+pub ruleset grouping = (rules, rest-start, rest-stops, rest-full, rest-last, rest_goes, rest-less, too_long)

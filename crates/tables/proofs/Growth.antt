@@ -1,44 +1,34 @@
 -- Rows at the end of rows, and one entry more in the rows and in the tables.
 -- Assumes nothing.
-use Prim.Native.Nat.{ℕ, suc, ◌+◌, ◌*◌, ◌-◌, ◌<◌, ◌≤◌}
+use Prim.Native.Nat.{ℕ, suc, ◌+◌, ◌*◌, ◌-◌, ◌≤◌}
 use mathlib.Core.Path.{◌≡◌, refl, ap, sym, ◌∙◌}
-use mathlib.Core.Bool.{Bool, true, false, not}
+use mathlib.Core.Bool.{Bool, true, false}
 use mathlib.Core.Option.{Option}
-use mathlib.Core.List.{List, [], ◌∷◌, ◌++◌, map, append-nil, append_assoc}
+use mathlib.Core.List.{List, [], ◌∷◌, ◌++◌, append-nil, append_assoc}
 use native.Mathlib.Omega.{arith}
 use native.Mathlib.Nat.{add-zero, suc-add, add-suc}
 use lib.ListN.{length, length-append}
 use lib.Seq.{sets}
 use lib.Dec.{ltb}
-use borrow.Author.Rules.{rules}
 use borrow.Author.Tests.{ltb-true}
 use Rattle.format.specs.Lists.{pick, flat}
-use Rattle.format.specs.Header.{Form}
-use Rattle.format.specs.Outcome.{fine, refused, fold}
-use Rattle.format.specs.Records.{stops, last, goes, Taken, Records, ends, last_of}
-use Rattle.format.specs.Tables.{Area, Symbol as Sym, Tables, area_row, named, last_index, add_area, add_symbol, add_body_of, add_entry, tables}
+use Rattle.format.specs.Outcome.{fine, refused}
+use Rattle.format.specs.Tables.{Area, Symbol as Sym, Tables, area_row, named, last_index, add_area, add_symbol, add_body_of, tables}
 use Rattle.format.specs.Rows.{area_numbers, symbol_numbers}
 use Rattle.format.specs.Entries as entries
 use Rattle.format.specs.Pairs as pairs
-use Rattle.laws.specs.Places.{next_line, entry_at, records_at, pairs_at}
-use Rattle.laws.proofs.Places.{records-at}
-use Rattle.scan.proofs.Laws.Tests.{was-no, was-yes}
 use Rattle.entry_line.specs.Told.{entry_of, name_of, addr_of}
 use Rattle.entry_line.specs.declared.Entry.{Entry}
-use Rattle.entry_line.specs.declared.Addr.{Addr}
+use Rattle.std.specs.Prelude as std
 use Rattle.entry_line.specs.declared.Entry.TheVariants as of
-use Rattle.steps.specs.Entries.{told_step, StepBounds, StepIn, EntryFits, Placed}
+use Rattle.steps.specs.Entries.{Placed}
 use Rattle.put_rows.specs.Put.{area_put, symbol_put}
 use Rattle.put_rows.proofs.RowLaws.{short-is}
-use Rattle.one_entry.specs.Adds.{Adds}
-use Rattle.tables.specs.GroupOne.{refusal_of, Hold, as_far, no_tables, lines_on, all_go, entry_ends, found_of, Grouped}
-use Rattle.steps.specs.declared.entry.EntryStep.{EntryStep}
-use Rattle.steps.specs.declared.entry.EntryStep.TheVariants.{Stops, Takes}
-use Rattle.one_entry.specs.declared.Added.{Added}
-use Rattle.one_entry.specs.declared.Added.TheVariants.{Room, Full}
-use Rattle.tables.specs.declared.group.Found.{Found}
-use Rattle.tables.specs.declared.group.Listed.{Listed}
-use Rattle.tables.specs.declared.group.Listed.TheVariants.{Done, Refused}
+use Rattle.one_entry.specs.Adds.{Adds, room, full}
+use Rattle.std.specs.Prelude.{Result}
+use Rattle.tables.specs.GroupOne.{Hold}
+use Rattle.one_entry.specs.declared.Rows.{Rows}
+use Rattle.one_entry.specs.declared.Full.{Full}
 
 -- ------------------------------------------------------------------ rows at the end of rows
 
@@ -84,6 +74,13 @@ module _ (rows : List ℕ) (row p a k : ℕ) (h : p + (a + k) ≤ 65536) where
 
 -- ------------------------------------------------------------------ one entry more, in the rows and in the tables
 
+-- the same rows, the same refusal
+same-room : {a b m n : ℕ} → room a b ≡ room m n → (a ≡ m) × (b ≡ n)
+same-room {a} {b} {m} {n} e = let f : ◌≡◌ {A = Rows} (record { areas = a; symbols = b }) (record { areas = m; symbols = n }) = cc in (ap (λ (r : Rows). r.areas) f, ap (λ (r : Rows). r.symbols) f)
+
+same-full : {m n : ℕ} → full m ≡ full n → m ≡ n
+same-full {m} {n} e = let f : ◌≡◌ {A = Full} (record { number = m }) (record { number = n }) = cc in ap (λ (r : Full). r.number) f
+
 module _ (t : Tables) (p : ℕ) {xs₀ ys₀ xs ys : List ℕ} {na ns : ℕ} (w : Hold t xs₀ ys₀ xs ys na ns) where
   pub record Grown (en : Entry) (xs' ys' : List ℕ) (a s : ℕ) : Type 0 where
     pub after : Tables
@@ -93,15 +90,15 @@ module _ (t : Tables) (p : ℕ) {xs₀ ys₀ xs ys : List ℕ} {na ns : ℕ} (w 
     pub symbols-low : ns ≤ 1024 → s ≤ 1024
 
   -- by the entry and its test
-  area-room : (a k z g : ℕ) (x : Addr) (b : Bool) → ltb na 64 ≡ b → {r : Added} {xs' ys' : List ℕ} {m n : ℕ}
-      → r ≡ pick b (Room (na + 1) ns) (Full 5) → xs' ≡ pick b (sets xs (7 * na) (area_numbers 0 (area_row p (name_of a k) z g (addr_of x)))) xs → ys' ≡ ys
-      → r ≡ Room m n → Grown (of.Area a k z g x) xs' ys' m n
+  area-room : (a k z g : ℕ) (x : std.Option ℕ) (b : Bool) → ltb na 64 ≡ b → {r : Result Rows Full} {xs' ys' : List ℕ} {m n : ℕ}
+      → r ≡ pick b (room (na + 1) ns) (full 5) → xs' ≡ pick b (sets xs (7 * na) (area_numbers 0 (area_row p (name_of a k) z g (addr_of x)))) xs → ys' ≡ ys
+      → r ≡ room m n → Grown (of.Area a k z g x) xs' ys' m n
   unfolding add_area
   area-room a k z g x false q e f h i = absurd (let y : ◌≡◌ {A = ℕ} 0 1 = cc in omega arith)
   area-room a k z g x true q {r} {xs'} {ys'} {m} {n} e f h i =
       let row = area_row p (name_of a k) z g (addr_of x) in
-      let c : na + 1 ≡ m = cc in
-      let d : ns ≡ n = cc in
+      let c : na + 1 ≡ m = (same-room (sym e ∙ i)).0 in
+      let d : ns ≡ n = (same-room (sym e ∙ i)).1 in
       record {
         after = record { areas = t.areas ++ row ∷ []; symbols = t.symbols };
         adds = rw (← w.area-count, q);
@@ -115,15 +112,15 @@ module _ (t : Tables) (p : ℕ) {xs₀ ys₀ xs ys : List ℕ} {na ns : ℕ} (w 
         symbols-low = λ l. omega arith;
       }
 
-  symbol-room : (a k : ℕ) (b : Bool) (v : ℕ) (u : Bool) → ltb ns 1024 ≡ u → {r : Added} {xs' ys' : List ℕ} {m n : ℕ}
-      → r ≡ pick u (Room na (ns + 1)) (Full 6) → xs' ≡ xs
+  symbol-room : (a k : ℕ) (b : Bool) (v : ℕ) (u : Bool) → ltb ns 1024 ≡ u → {r : Result Rows Full} {xs' ys' : List ℕ} {m n : ℕ}
+      → r ≡ pick u (room na (ns + 1)) (full 6) → xs' ≡ xs
       → ys' ≡ pick u (sets ys (5 * ns) (symbol_numbers (record { name = named p (name_of a k); ref = b; value = v; area = last_index na }))) ys
-      → r ≡ Room m n → Grown (of.Symbol a k b v) xs' ys' m n
+      → r ≡ room m n → Grown (of.Symbol a k b v) xs' ys' m n
   unfolding add_symbol
   symbol-room a k b v false q e f h i = absurd (let y : ◌≡◌ {A = ℕ} 0 1 = cc in omega arith)
   symbol-room a k b v true q {r} {xs'} {ys'} {m} {n} e f h i =
-      let c : na ≡ m = cc in
-      let d : ns + 1 ≡ n = cc in
+      let c : na ≡ m = (same-room (sym e ∙ i)).0 in
+      let d : ns + 1 ≡ n = (same-room (sym e ∙ i)).1 in
       record {
         after = record { areas = t.areas; symbols = t.symbols ++ row (length t.areas) ∷ [] };
         adds = rw (← w.symbol-count, q);
@@ -140,13 +137,13 @@ module _ (t : Tables) (p : ℕ) {xs₀ ys₀ xs ys : List ℕ} {na ns : ℕ} (w 
       row : ℕ → Sym
       row o = record { name = named p (name_of a k); ref = b; value = v; area = last_index o }
 
-  pub grown : (en : Entry) → Placed 65536 p en → na ≤ 64 → {r : Added} {xs' ys' : List ℕ} {m n : ℕ} → Adds en p na ns xs ys r xs' ys' → r ≡ Room m n → Grown en xs' ys' m n
+  pub grown : (en : Entry) → Placed 65536 p en → na ≤ 64 → {r : Result Rows Full} {xs' ys' : List ℕ} {m n : ℕ} → Adds en p na ns xs ys r xs' ys' → r ≡ room m n → Grown en xs' ys' m n
   grown (of.Area a k z g x) l h d i = area-room a k z g x (ltb na 64) refl d.answered (d.areas ∙ area-whole xs na p a k l.fits z g (addr_of x)) d.symbols i
   grown (of.Symbol a k b v) l h d i = symbol-room a k b v (ltb ns 1024) refl d.answered d.areas (d.symbols ∙ symbol-whole ys ns p a k l.fits b v na h) i
   grown of.Ignored l h {r} {xs'} {ys'} {m} {n} d i =
-      let e : r ≡ Room na ns = d.answered in
-      let c : na ≡ m = cc in
-      let o : ns ≡ n = cc in
+      let e : r ≡ room na ns = d.answered in
+      let c : na ≡ m = (same-room (sym e ∙ i)).0 in
+      let o : ns ≡ n = (same-room (sym e ∙ i)).1 in
       record {
         after = t;
         adds = refl;
@@ -155,34 +152,34 @@ module _ (t : Tables) (p : ℕ) {xs₀ ys₀ xs ys : List ℕ} {na ns : ℕ} (w 
         symbols-low = λ l. omega arith;
       }
 
-  area-full : (a k z g : ℕ) (x : Addr) (b : Bool) → ltb na 64 ≡ b → {r : Added} {n : ℕ} → r ≡ pick b (Room (na + 1) ns) (Full 5) → r ≡ Full n → add_body_of t p (entry_of (of.Area a k z g x)) ≡ refused n p
+  area-full : (a k z g : ℕ) (x : std.Option ℕ) (b : Bool) → ltb na 64 ≡ b → {r : Result Rows Full} {n : ℕ} → r ≡ pick b (room (na + 1) ns) (full 5) → r ≡ full n → add_body_of t p (entry_of (of.Area a k z g x)) ≡ refused n p
   unfolding add_area
   area-full a k z g x true q e i = absurd (let y : ◌≡◌ {A = ℕ} 0 1 = cc in omega arith)
-  area-full a k z g x false q {r} {n} e i = let c : 5 ≡ n = cc in rw (← w.area-count, q, c)
+  area-full a k z g x false q {r} {n} e i = let c : 5 ≡ n = same-full (sym e ∙ i) in rw (← w.area-count, q, c)
 
-  symbol-full : (a k : ℕ) (b : Bool) (v : ℕ) (u : Bool) → ltb ns 1024 ≡ u → {r : Added} {n : ℕ} → r ≡ pick u (Room na (ns + 1)) (Full 6) → r ≡ Full n → add_body_of t p (entry_of (of.Symbol a k b v)) ≡ refused n p
+  symbol-full : (a k : ℕ) (b : Bool) (v : ℕ) (u : Bool) → ltb ns 1024 ≡ u → {r : Result Rows Full} {n : ℕ} → r ≡ pick u (room na (ns + 1)) (full 6) → r ≡ full n → add_body_of t p (entry_of (of.Symbol a k b v)) ≡ refused n p
   unfolding add_symbol
   symbol-full a k b v true q e i = absurd (let y : ◌≡◌ {A = ℕ} 0 1 = cc in omega arith)
-  symbol-full a k b v false q {r} {n} e i = let c : 6 ≡ n = cc in rw (← w.symbol-count, q, c)
+  symbol-full a k b v false q {r} {n} e i = let c : 6 ≡ n = same-full (sym e ∙ i) in rw (← w.symbol-count, q, c)
 
   -- where there is no room, nothing is stored
-  area-kept : (b : Bool) (m n c : ℕ) (ls : List ℕ) {r : Added} {d : ℕ} {ks xs' : List ℕ} → r ≡ pick b (Room m n) (Full c) → r ≡ Full d → xs' ≡ pick b ls ks → xs' ≡ ks
+  area-kept : (b : Bool) (m n c : ℕ) (ls : List ℕ) {r : Result Rows Full} {d : ℕ} {ks xs' : List ℕ} → r ≡ pick b (room m n) (full c) → r ≡ full d → xs' ≡ pick b ls ks → xs' ≡ ks
   area-kept true m n c ls e i h = absurd (let y : ◌≡◌ {A = ℕ} 0 1 = cc in omega arith)
   area-kept false m n c ls e i h = h
 
-  pub kept-areas : (en : Entry) {r : Added} {xs' ys' : List ℕ} {n : ℕ} → Adds en p na ns xs ys r xs' ys' → r ≡ Full n → xs' ≡ xs
+  pub kept-areas : (en : Entry) {r : Result Rows Full} {xs' ys' : List ℕ} {n : ℕ} → Adds en p na ns xs ys r xs' ys' → r ≡ full n → xs' ≡ xs
   unfolding area_put
   kept-areas (of.Area a k z g x) d i = area-kept (ltb na 64) _ _ _ _ d.answered i d.areas
   kept-areas (of.Symbol a k b v) d i = d.areas
   kept-areas of.Ignored d i = d.areas
 
-  pub kept-symbols : (en : Entry) {r : Added} {xs' ys' : List ℕ} {n : ℕ} → Adds en p na ns xs ys r xs' ys' → r ≡ Full n → ys' ≡ ys
+  pub kept-symbols : (en : Entry) {r : Result Rows Full} {xs' ys' : List ℕ} {n : ℕ} → Adds en p na ns xs ys r xs' ys' → r ≡ full n → ys' ≡ ys
   unfolding symbol_put
   kept-symbols (of.Area a k z g x) d i = d.symbols
   kept-symbols (of.Symbol a k b v) d i = area-kept (ltb ns 1024) _ _ _ _ d.answered i d.symbols
   kept-symbols of.Ignored d i = d.symbols
 
-  pub filled : (en : Entry) {r : Added} {xs' ys' : List ℕ} {n : ℕ} → Adds en p na ns xs ys r xs' ys' → r ≡ Full n → add_body_of t p (entry_of en) ≡ refused n p
+  pub filled : (en : Entry) {r : Result Rows Full} {xs' ys' : List ℕ} {n : ℕ} → Adds en p na ns xs ys r xs' ys' → r ≡ full n → add_body_of t p (entry_of en) ≡ refused n p
   filled (of.Area a k z g x) d i = area-full a k z g x (ltb na 64) refl d.answered i
   filled (of.Symbol a k b v) d i = symbol-full a k b v (ltb ns 1024) refl d.answered i
-  filled of.Ignored {r} {xs'} {ys'} {n} d i = absurd (let e : r ≡ Room na ns = d.answered in let y : ◌≡◌ {A = ℕ} 0 1 = cc in omega arith)
+  filled of.Ignored {r} {xs'} {ys'} {n} d i = absurd (let e : r ≡ room na ns = d.answered in let y : ◌≡◌ {A = ℕ} 0 1 = cc in omega arith)

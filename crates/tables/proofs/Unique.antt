@@ -1,6 +1,6 @@
 -- No second answer fits the contract of group one: neither another answer nor another number in a lent array.
 -- Assumes nothing.
-use Prim.Native.Nat.{ℕ, ◌<◌, ◌≤◌}
+use Prim.Native.Nat.{ℕ}
 use mathlib.Core.Path.{◌≡◌, refl, ap, sym, ◌∙◌}
 use mathlib.Core.Bool.{Bool}
 use mathlib.Core.List.{List}
@@ -12,7 +12,7 @@ use Rattle.format.specs.Header.{Form}
 use Rattle.format.specs.Outcome.{Outcome, fine, refused}
 use Rattle.format.specs.Tables.{Tables}
 use Rattle.format.specs.Rows.{area_numbers, symbol_numbers}
-use Rattle.tables.specs.GroupOne.{Read, Refuses, Grouped}
+use Rattle.tables.specs.GroupOne.{Read, Grouped}
 use Rattle.tables.specs.declared.group.Found.{Found}
 use Rattle.tables.specs.declared.group.Listed.{Listed}
 use Rattle.tables.specs.declared.group.Listed.TheVariants.{Done, Refused, TooLong}

@@ -11,16 +11,9 @@ use Rattle.format.specs.Tables.{Tables, add_entry, tables}
 use Rattle.format.specs.Rows.{area_numbers, symbol_numbers}
 use Rattle.format.specs.Pairs as pairs
 use Rattle.laws.specs.Places.{next_line, entry_at, records_at, pairs_at}
-use Rattle.one_entry.specs.declared.Added.{Added}
-use Rattle.one_entry.specs.declared.Added.TheVariants.{Room, Full}
 use Rattle.tables.specs.declared.group.Found.{Found}
 use Rattle.tables.specs.declared.group.Listed.{Listed}
 use Rattle.tables.specs.declared.group.Listed.TheVariants.{Done, Refused, TooLong}
-
--- the refusal of a line at a place
-abbrev pub refusal_of : Added → ℕ → Listed
-refusal_of (Full n) p = Refused n p
-refusal_of (Room a s) p = Refused 0 p
 
 -- the rows of tables, in what was lent for them
 pub record Hold (t : Tables) (xs₀ ys₀ xs ys : List ℕ) (na ns : ℕ) : Type 0 where

@@ -1,10 +1,10 @@
 // Group one: the O, H, M, A and S lines behind the header.
 ghost use Rattle.std.specs.Prelude.{◌≡◌};
 ghost use Rattle.header.specs.Told.{form_of};
-ghost use Rattle.tables.specs.GroupOne.{refusal_of, found_of, Grouped};
+ghost use Rattle.tables.specs.GroupOne.{found_of, Grouped};
 
 use header::Form;
-use one_entry::{Added, add_entry};
+use one_entry::add_entry;
 use rooms::{AREA_ROOM, SYMBOL_ROOM, TEXT_ROOM};
 use steps::{EntryStep, entry_step};
 
@@ -24,22 +24,6 @@ pub enum Listed {
     Done { found: Found },
     Refused { number: u32, at: usize },
     TooLong,
-}
-
-// The refusal of a line at p.
-fn full(a: Added, p: usize) -> Listed
-    ensures { result ≡ refusal_of a p }
-{
-    match a {
-        Added::Full { number } => Listed::Refused {
-            number: number,
-            at: p,
-        },
-        Added::Room {
-            areas: _,
-            symbols: _,
-        } => Listed::Refused { number: 0, at: p },
-    }
 }
 
 // What was found so far.
@@ -84,15 +68,16 @@ pub fn group_over(
         else {
             return Listed::Done { found: f };
         };
-        let added = add_entry(entry, p, f.areas, f.symbols, areas, symbols);
-        let Added::Room {
-            areas: a,
-            symbols: s,
-        } = added
-        else {
-            return full(added, p);
+        let rows = match add_entry(entry, p, f.areas, f.symbols, areas, symbols) {
+            Ok(rows) => rows,
+            Err(full) => {
+                return Listed::Refused {
+                    number: full.number,
+                    at: p,
+                };
+            }
         };
-        f = found_of(a, s, next, end, on);
+        f = found_of(rows.areas, rows.symbols, next, end, on);
         if !on {
             return Listed::Done { found: f };
         }

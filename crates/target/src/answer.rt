@@ -7,7 +7,7 @@ ghost use Rattle.target_asked.specs.Asked.{told};
 
 use crate::ported::{relative, signed_number};
 use mode::JumpType;
-use target_asked::{Answer, is_allowed, refused};
+use target_asked::{Refusal, is_allowed, refused};
 use target_parts::{near, number_bit, signed_start, start};
 use target_words::{byte_at, has, sub64, wide};
 
@@ -33,11 +33,11 @@ fn target_by(
     number: u32,
     address: u64,
     bytes: &[u8],
-) -> Answer
+) -> Result<u64, Refusal>
     ensures { told result ≡ target_by (told_class class) big mode number bytes.now address }
 {
     if is_allowed(class, mode, number, bytes.len()) {
-        Answer::At(reached(class, mode, big, number, address, bytes))
+        Ok(reached(class, mode, big, number, address, bytes))
     } else {
         refused()
     }
@@ -51,7 +51,7 @@ pub fn target_in(
     number: u32,
     address: u64,
     bytes: &[u8],
-) -> Answer
+) -> Result<u64, Refusal>
     ensures { told result ≡ target_by (class_named (get_or table.now (mode % 2048) 0)) big mode number bytes.now address }
 {
     let class = mode::class_in(table, mode);
@@ -59,7 +59,7 @@ pub fn target_in(
 }
 
 // The target of a fixup: the mode, the order, the number and the address of its bytes, and the bytes on site.
-pub fn target(mode: u32, big: bool, number: u32, address: u64, bytes: &[u8]) -> Answer
+pub fn target(mode: u32, big: bool, number: u32, address: u64, bytes: &[u8]) -> Result<u64, Refusal>
     ensures { told result ≡ defs.target big mode number bytes.now address }
 {
     let class = mode::class_of(mode);

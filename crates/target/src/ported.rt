@@ -13,9 +13,8 @@ pub(crate) fn signed_number(signed: bool, tested: u64, n: u64) -> u64
     requires { tested ≤ 23 }
     ensures { result ≡ defs.signed_number signed tested n }
 {
-    if signed {
-        let b = shr64(n, tested);
-        if b % 2 == 1 { sub64(n, shl64(2, n)) } else { n }
+    if signed && shr64(n, tested) % 2 == 1 {
+        sub64(n, shl64(2, n))
     } else {
         n
     }

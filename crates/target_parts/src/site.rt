@@ -8,18 +8,11 @@ ghost use Rattle.target_parts.specs.Parts.{start_by};
 use mode::JumpType;
 use target_words::{add64, byte_at, shl64, shr64, sub64, wide};
 
-// A byte as a number of 64 bits.
-fn wide8(x: u8) -> u64
-    ensures { (result ≡ x) × (result < 256) }
-{
-    x as u64
-}
-
 // The number that the second and the third byte hold.
 fn after_first(big: bool, bytes: &[u8]) -> u64
     ensures { (result ≡ join big (take 2 (drop 1 bytes.now))) × (result < 4294967296) }
 {
-    if bytes.len() == 0 {
+    if bytes.is_empty() {
         return 0;
     }
     wide(joining::endian_to_number(big, &bytes[1..], 2))
@@ -30,11 +23,11 @@ pub fn start(class: JumpType, big: bool, opcode: u8, bytes: &[u8]) -> u64
     ensures { result ≡ start_by opcode (told_class class) big bytes.now }
 {
     match class {
-        JumpType::Addr19 => (wide8(opcode) << 16) + after_first(big, bytes),
-        JumpType::Addr11 => (wide8(opcode) << 8) + wide8(byte_at(bytes, 1)),
+        JumpType::Addr19 => (u64::from(opcode) << 16) + after_first(big, bytes),
+        JumpType::Addr11 => (u64::from(opcode) << 8) + u64::from(byte_at(bytes, 1)),
         JumpType::Addr24 => wide(joining::endian_to_number(big, bytes, 3)),
         JumpType::Addr16 => wide(joining::endian_to_number(big, bytes, 2)),
-        JumpType::Byte => wide8(byte_at(bytes, 0)),
+        JumpType::Byte => u64::from(byte_at(bytes, 0)),
         JumpType::Other => 0,
     }
 }
@@ -43,16 +36,8 @@ pub fn start(class: JumpType, big: bool, opcode: u8, bytes: &[u8]) -> u64
 pub fn signed_start(signed: bool, high: u64, t: u64) -> u64
     ensures { result ≡ defs.signed_start signed high t }
 {
-    if 64 <= high {
-        return t;
-    }
-    if signed {
-        let b = shr64(t, high);
-        if b % 2 == 1 {
-            sub64(t, shl64(2, high))
-        } else {
-            t
-        }
+    if signed && high < 64 && shr64(t, high) % 2 == 1 {
+        sub64(t, shl64(2, high))
     } else {
         t
     }

@@ -1,14 +1,11 @@
--- A bit of a mode, a byte past the last one, and how far behind the address a relative target counts.
+-- A bit of a mode, and how far behind the address a relative target counts.
 -- Assumes nothing.
-use Rattle.std.proofs.Common.{◌≡◌, ℕ, ◌/◌, ◌^◌, ◌<◌, ◌≤◌, Bool, true, false, List, length, get_or, sym, arith, lit<, rules}
+use Rattle.std.proofs.Common.{◌≡◌, ℕ, ◌/◌, ◌^◌, ◌<◌, ◌≤◌, Bool, true, false, sym, arith, lit<, rules}
 use native.Mathlib.Nat.{div-eq_of_lt, pow-le-pow_right}
-use lib.ListN.{get_or-eq_default}
+use lib.Dec.{ltb}
+use borrow.Author.Tests.{le-ltb}
 use Rattle.format.specs.Lists.{pick}
 use Rattle.format.specs.Mode.{bit}
-
--- a byte past the last one
-pub past_end : (bs : List ℕ) (i : ℕ) → length bs ≤ i → 0 ≡ get_or bs i 0
-past_end bs i h = sym (get_or-eq_default bs 0 h)
 
 -- a bit above all bits
 above : (x w k : ℕ) → x < 2 ^ w → w ≤ k → x / 2 ^ k ≡ 0
@@ -18,8 +15,8 @@ pub no-bit : (x w k : ℕ) → x < 2 ^ w → w ≤ k → bit k x ≡ false
 unfolding bit
 no-bit x w k h l = rw (above x w k h l)
 
-pub no-mode-bit : (m k : ℕ) → m < 2 ^ 32 → 32 ≤ k → false ≡ bit k m
-no-mode-bit m k h l = sym (no-bit m 32 k h l)
+pub no-mode-bit : (m k : ℕ) → m < 2 ^ 32 → 32 ≤ k → ltb k 32 ≡ bit k m
+no-mode-bit m k h l = rw (le-ltb k 32 l) (sym (no-bit m 32 k h l))
 
 -- how far behind
 pub back_one : (m : ℕ) {b : Bool} → b ≡ bit 0 m → b ≡ true → ◌≡◌ {A = ℕ} 1 (pick (bit 0 m) 1 2)
@@ -28,4 +25,4 @@ back_one m e f = rw (← e, f)
 pub back-two : (m : ℕ) {b : Bool} → b ≡ bit 0 m → b ≡ false → ◌≡◌ {A = ℕ} 2 (pick (bit 0 m) 1 2)
 back-two m e f = rw (← e, f)
 
-pub ruleset reading = (rules, no-mode-bit, past_end, back_one, back-two)
+pub ruleset reading = (rules, no-mode-bit, back_one, back-two)

@@ -7,14 +7,14 @@ ghost use Rattle.target_words.specs.Shifted.{shifted_left, shifted_right};
 pub fn add64(a: u64, b: u64) -> u64
     ensures { result ≡ wrap_add a b }
 {
-    std::num::wrapping_add_u64(a, b)
+    a.wrapping_add(b)
 }
 
 // The difference, wrapped at 64 bits.
 pub fn sub64(a: u64, b: u64) -> u64
     ensures { result ≡ wrap_sub a b }
 {
-    std::num::wrapping_sub_u64(a, b)
+    a.wrapping_sub(b)
 }
 
 // x shifted left; bits above the 64th are lost.

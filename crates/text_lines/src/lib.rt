@@ -18,10 +18,7 @@ pub struct LineAt {
 fn low(b: u8, before: bool) -> bool
     ensures { High b before result }
 {
-    if b <= 13 {
-        return true;
-    }
-    before
+    b <= b'\r' || before
 }
 
 // Whether one of eight bytes is low enough to be CR or LF: no branch in it, so that the eight are compared at once.
@@ -44,16 +41,12 @@ fn past_few(t: &[u8], i: usize) -> usize
     requires { i + 8 ≤ length t.now }
     ensures { OneLine t.now i result }
 {
-    let mut j = i;
-    let mut k: usize = 7;
-    while 0 < k {
+    for j in i..i + 7 {
         if t[j] < 32 {
             return j;
         }
-        j += 1;
-        k -= 1;
     }
-    j
+    i + 7
 }
 
 // A place in the same line, behind as many bytes as have no low one among them; two eights a turn.
@@ -81,14 +74,12 @@ pub fn line_at(t: &[u8], at: usize) -> LineAt
     ensures { LineIs t.now at result }
 {
     let m = past_eights(t, at);
-    if m < t.len() {
-        if t[m] == 10 {
-            return LineAt {
-                end: m,
-                ends: 1,
-                next: m + 1,
-            };
-        }
+    if m < t.len() && t[m] == b'\n' {
+        return LineAt {
+            end: m,
+            ends: 1,
+            next: m + 1,
+        };
     }
     let q = scan::past_kind(t, m, Kind::InLine);
     let e = scan::line_ending(t, q);

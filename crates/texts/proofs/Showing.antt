@@ -1,29 +1,20 @@
 -- The laws of names as they are shown.
 -- Assumes nothing.
-use Prim.Native.Nat.{ℕ, zero, suc, ◌+◌, ◌≤◌, ◌<◌}
+use Prim.Native.Nat.{ℕ, ◌+◌, ◌≤◌, ◌<◌}
 use mathlib.Core.Path.{◌≡◌, refl, ap, sym, ◌∙◌}
 use mathlib.Core.Bool.{Bool, true, false, cond}
 use mathlib.Core.List.{List, [], ◌∷◌, ◌++◌, append_assoc, append-nil}
 use native.Mathlib.Nat.{add-zero}
 use native.Mathlib.Numerals.{add-one}
 use native.Mathlib.Omega.{arith}
-use lib.Dec.{ltb, eqb}
 use lib.ListN.{length, take, get_or}
 use lib.Seq.{take-suc, take_all}
 use borrow.Author.Rules.{rules}
-use borrow.Author.Tests.{lt-ltb, le-ltb}
 use Rattle.hexadecimal.specs.Hex.{escaped}
 use Rattle.sink.specs.declared.output.Sink.{Sink}
 use Rattle.texts.specs.Names.{control, shown_byte, shown}
-use Rattle.sink.specs.Sinks.{behind, Adds}
+use Rattle.sink.specs.Sinks.{Adds}
 use Rattle.texts.proofs.Laws.{adds-both}
-
--- `is_control`
-pub control-low : (b : ℕ) → b < 32 → true ≡ control b
-control-low b h = rw (lt-ltb b 32 h)
-
-pub control-high : (b : ℕ) → 32 ≤ b → eqb b 127 ≡ control b
-control-high b h = rw (le-ltb b 32 h)
 
 -- `shown_byte`
 byte-is : (b : ℕ) {c d : Bool} → c ≡ control b → c ≡ d → shown_byte b ≡ cond d (escaped b) (b ∷ [])
@@ -37,7 +28,7 @@ module _ {s r : Sink} {out after : List ℕ} (b : ℕ) {c : Bool} where
   pub byte-plain : c ≡ control b → c ≡ false → Adds s out (b ∷ []) r after → Adds s out (shown_byte b) r after
   byte-plain p q a = rw (byte-is b p q) a
 
-pub ruleset shows = (rules, control-low, control-high, byte-escaped, byte-plain)
+pub ruleset shows = (rules, byte-escaped, byte-plain)
 
 -- `name`: i bytes are shown
 shown-append : (a b : List ℕ) → shown (a ++ b) ≡ shown a ++ shown b

@@ -9,10 +9,7 @@ use sink::{Buffer, Sink};
 fn is_control(byte: u8) -> bool
     ensures { result ≡ control byte }
 {
-    if byte < 32 {
-        return true;
-    }
-    byte == 127
+    byte < 32 || byte == 127
 }
 
 // A byte of a name, as it is or as a backslash, an x and two digits.
@@ -30,10 +27,8 @@ pub fn name(s: Sink, out: &mut Buffer, bytes: &[u8]) -> Sink
     ensures { Adds s out.old (shown bytes.now) result out.new }
 {
     let mut now = s;
-    let mut i = 0;
-    while i < bytes.len() {
-        now = shown_byte(now, out, bytes[i]);
-        i += 1;
+    for byte in bytes {
+        now = shown_byte(now, out, *byte);
     }
     now
 }

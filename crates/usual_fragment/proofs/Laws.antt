@@ -1,22 +1,23 @@
 -- What the definition reads where bytes of two capital digits stand behind single spaces.
 -- Assumes nothing.
-use Prim.Native.Nat.{ℕ, ◌+◌, ◌*◌, ◌-◌, ◌<◌, ◌≤◌, ◌^◌, ◌%◌}
-use mathlib.Core.Path.{◌≡◌, refl, sym, ◌∙◌}
+use Prim.Native.Nat.{ℕ, ◌+◌, ◌*◌, ◌-◌, ◌<◌, ◌≤◌, ◌%◌}
+use mathlib.Core.Path.{◌≡◌, refl, sym}
 use mathlib.Core.Bool.{Bool, true, false}
 use mathlib.Core.List.{List}
 use native.Mathlib.Omega.{arith}
-use lib.Dec.{eqb, lit≤}
+use lib.Dec.{eqb}
 use lib.ListN.{length, get_or}
 use borrow.Author.Rules.{rules}
 use borrow.Author.Tests.{eq-eqb, ne_eqb, eqb-true, lt-ltb}
 use Rattle.format.specs.Lists.{pick}
 use Rattle.format.specs.Bytes.{is_blank, worth}
 use Rattle.format.specs.Got.{is}
-use Rattle.format.specs.Number.{past, space, byte, next_byte, joined}
+use Rattle.format.specs.Number.{past, space, byte, next_byte}
 use Rattle.format.specs.Pairs.{index, next_index, any_mode, mode_of, fragment}
 use Rattle.digits.specs.Capitals.{capitals}
-use Rattle.quick_numbers.specs.Short.{Two, Spaced}
-use Rattle.numbers.specs.declared.Num.TheVariants as num
+use Rattle.quick_numbers.specs.Short.{Two}
+use Rattle.std.specs.Prelude.{Option, Some, None, Ok}
+use Rattle.numbers.specs.declared.Read.{Read}
 use Rattle.numbers.proofs.Laws.Numbers.{space-is}
 use Rattle.quick_numbers.proofs.Laws.{two_is, spaced-is}
 use Rattle.scan.proofs.Laws.Kinds.{one-space}
@@ -25,11 +26,9 @@ use Rattle.joined_bytes.specs.Steps.{join_step}
 use Rattle.joined_bytes.specs.Joins.{Joins}
 use Rattle.joined_bytes.proofs.Laws.Joins.{joins-two}
 use Rattle.joined_bytes.proofs.Laws.Joined.{index_is}
-use Rattle.joining.proofs.Shift.{moved_up}
 use Rattle.modes.proofs.Laws.{mode-2, mode-4, mode-6}
-use Rattle.usual_fragment.specs.Usual.{triple, TailSays, TailIs, UsualSays, UsualIs}
-use Rattle.usual_fragment.specs.declared.Usual.{Usual}
-use Rattle.usual_fragment.specs.declared.Usual.TheVariants.{Is, Other}
+use Rattle.usual_fragment.specs.Usual.{triple, seen, TailSays, TailIs, UsualSays, UsualIs}
+use Rattle.usual_fragment.specs.declared.Fragment.{Fragment}
 
 -- `spaced`
 pub triple-other : (s : List ℕ) (p : ℕ) → (get_or s p 0 ≡ 32 → ⊥) → 256 ≡ triple s p
@@ -54,34 +53,6 @@ triple-space s p {v} e h = go (eqb (get_or s p 0) 32) refl e
 triple-digits : (s : List ℕ) (p : ℕ) {v : ℕ} → v ≡ triple s p → v < 256 → v ≡ capitals (get_or s (p + 1) 0) (get_or s (p + 2) 0)
 unfolding triple
 triple-digits s p {v} e h = rw (eq-eqb (get_or s p 0) 32 (triple-space s p e h)) at e
-
--- `index_of`
-module _ (a b : ℕ) (l : a < 256) (k : b < 256) where
-  up : a * 256 % 2 ^ 64 ≡ a * 256
-  up = moved_up 64 8 (lit≤ tt) (omega arith)
-
-  above : b * 256 % 2 ^ 64 ≡ b * 256
-  above = moved_up 64 8 (lit≤ tt) (omega arith)
-
-  module _ {big : Bool} where
-    pub index-big : big ≡ true → a * 256 % 2 ^ 64 + b ≡ join_step big a 256 b
-    unfolding join_step
-    index-big e = rw (e, up)
-
-    pub index-little : big ≡ false → a + b * 256 % 2 ^ 64 ≡ join_step big a 256 b
-    unfolding join_step
-    index-little e = rw (e, above) (omega arith)
-
-  pub index-low : a * 256 % 2 ^ 64 + b < 65536
-  index-low = omega (arith, up)
-
-  pub index-high : a + b * 256 % 2 ^ 64 < 65536
-  index-high = omega (arith, above)
-
-  pub mode-long : (a * 256 % 2 ^ 64 + b) % 4096 ≡ (a * 256 + b) % 4096
-  mode-long = rw up
-
-pub ruleset indexing = (rules, index-big, index-little, index-low, index-high, mode-long)
 
 -- ------------------------------------------------------------------ three bytes as the definition reads them
 
@@ -136,11 +107,11 @@ module _ (big : Bool) (s : List ℕ) (p : ℕ) {a b c x : ℕ} (h : p + 6 ≤ le
 
 -- ------------------------------------------------------------------ `behind_mode`
 
-pub tail-other : (big : Bool) (s : List ℕ) (p mode : ℕ) → TailIs big s p mode Other
+pub tail-other : (big : Bool) (s : List ℕ) (p mode : ℕ) → TailIs big s p mode None
 tail-other big s p mode = record { says = tt }
 
 pub tail-is : (big : Bool) (s : List ℕ) (p mode : ℕ) → p + 9 ≤ length s → {e a b : ℕ} → e ≡ triple s p → a ≡ triple s (p + 3) → b ≡ triple s (p + 6) → e ≤ 255 → a ≤ 255 → b ≤ 255
-    → {c : ℕ} → c ≡ get_or s (p + 9) 0 → c < 48 → {i : ℕ} → i ≡ join_step big a 256 b → i < 65536 → TailIs big s p mode (Is mode e i (p + 9))
+    → {c : ℕ} → c ≡ get_or s (p + 9) 0 → c < 48 → {i : ℕ} → i ≡ join_step big a 256 b → i < 65536 → TailIs big s p mode (Some (record { value = record { mode = mode; entry = e; index = i }; next = p + 9 }))
 tail-is big s p mode h {e} {a} {b} x y z le la lb {c} q m {i} g l =
     let u : p + 3 + 3 ≡ p + 6 = omega arith in
     let v : p + 3 + 6 ≡ p + 9 = omega arith in
@@ -157,39 +128,39 @@ pub ruleset tails = (rules, tail-other, tail-is)
 
 -- ------------------------------------------------------------------ `usual_fragment`
 
-pub usual-other : (radix : ℕ) (big : Bool) (s : List ℕ) (at : ℕ) → UsualIs radix big s at Other
+pub usual-other : (radix : ℕ) (big : Bool) (s : List ℕ) (at : ℕ) → UsualIs radix big s at None
 usual-other radix big s at = record { says = tt }
 
 -- a mode, and what is behind it
 module _ (big : Bool) (s : List ℕ) (at : ℕ) {a b m : ℕ} (x : space s at ≡ is tt a) (y : is m b ≡ mode_of 16 s a) where
-  usual-from : (n e i q : ℕ) → TailSays big s b m (Is n e i q) → fragment 16 big s at ≡ is (record { mode = n; entry = e; index = i }) q
+  usual-from : (r : Read Fragment) → TailSays big s b m (Some r) → fragment 16 big s at ≡ is (seen r.value) r.next
   unfolding fragment
-  usual-from n e i q t = rw (x, ← y, t.2, t.3, t.0)
+  usual-from r t = rw (x, ← y, t.2, t.3, t.0)
 
 module _ (radix : ℕ) (big : Bool) (s : List ℕ) (at : ℕ) (f : radix ≡ 16) (h : at < length s) {m : ℕ} (d : m ≡ triple s at) where
-  pub usual-short : 12 ≤ length s - at → m < 240 → {r : Usual} → TailIs big s (at + 3) m r → UsualIs radix big s at r
+  pub usual-short : 12 ≤ length s - at → m < 240 → {r : Option (Read Fragment)} → TailIs big s (at + 3) m r → UsualIs radix big s at r
   usual-short k l {r} w = record { says = go r w.says }
     where
-      go : (r : Usual) → TailSays big s (at + 3) m r → UsualSays radix big s at r
-      go Other t = tt
-      go (Is n e i q) t =
+      go : (r : Option (Read Fragment)) → TailSays big s (at + 3) m r → UsualSays radix big s at r
+      go None t = tt
+      go (Some v) t =
           let c : 32 ≡ get_or s (at + 3) 0 = sym t.1 in
           let b = triple-byte s at (omega arith) d (omega arith) c (omega arith) in
-          let o : is m (at + 3) ≡ mode_of 16 s (at + 1) = mode-6 16 s (at + 1) {m = num.Is m (at + 3)} (mode-2 16 s (at + 1) {b = num.Is m (at + 3)} b refl l) refl (omega arith) in
-          rw f (usual-from big s at (triple-leads s at (omega arith) d (omega arith) c (omega arith)) o n e i q t)
+          let o : is m (at + 3) ≡ mode_of 16 s (at + 1) = mode-6 16 s (at + 1) {m = Ok (record { value = m; next = at + 3 })} (mode-2 16 s (at + 1) {b = Ok (record { value = m; next = at + 3 })} b refl l) refl (omega arith) in
+          rw f (usual-from big s at (triple-leads s at (omega arith) d (omega arith) c (omega arith)) o v t)
 
-  pub usual-long : 15 ≤ length s - at → 240 ≤ m → m ≤ 255 → {l : ℕ} → l ≡ triple s (at + 3) → l ≤ 255 → {x : ℕ} → x ≡ (m * 256 + l) % 4096 → x < 2048 → {r : Usual} → TailIs big s (at + 6) x r → UsualIs radix big s at r
+  pub usual-long : 15 ≤ length s - at → 240 ≤ m → m ≤ 255 → {l : ℕ} → l ≡ triple s (at + 3) → l ≤ 255 → {x : ℕ} → x ≡ (m * 256 + l) % 4096 → x < 2048 → {r : Option (Read Fragment)} → TailIs big s (at + 6) x r → UsualIs radix big s at r
   usual-long k hm lm {l} dl ll {x} ex lx {r} w = record { says = go r w.says }
     where
-      go : (r : Usual) → TailSays big s (at + 6) x r → UsualSays radix big s at r
-      go Other t = tt
-      go (Is n e i q) t =
+      go : (r : Option (Read Fragment)) → TailSays big s (at + 6) x r → UsualSays radix big s at r
+      go None t = tt
+      go (Some v) t =
           let z : at + 3 + 3 ≡ at + 6 = omega arith in
           let c : 32 ≡ get_or s (at + 3) 0 = sym (triple-space s (at + 3) dl (omega arith)) in
           let b = triple-byte s at (omega arith) d lm c (omega arith) in
           let p : is l (at + 6) ≡ next_byte 16 s (at + 3) = rw z at (triple-next s (at + 3) {c = 32} (omega arith) dl ll (rw z (sym t.1)) (omega arith)) in
-          let y : is x (at + 6) ≡ any_mode 16 s (at + 1) = mode-4 16 s (at + 1) {b = num.Is m (at + 3)} b refl hm {c = num.Is l (at + 6)} p refl ex in
-          let o : is x (at + 6) ≡ mode_of 16 s (at + 1) = mode-6 16 s (at + 1) {m = num.Is x (at + 6)} y refl lx in
-          rw f (usual-from big s at (triple-leads s at (omega arith) d lm c (omega arith)) o n e i q t)
+          let y : is x (at + 6) ≡ any_mode 16 s (at + 1) = mode-4 16 s (at + 1) {b = Ok (record { value = m; next = at + 3 })} b refl hm {c = Ok (record { value = l; next = at + 6 })} p refl ex in
+          let o : is x (at + 6) ≡ mode_of 16 s (at + 1) = mode-6 16 s (at + 1) {m = Ok (record { value = x; next = at + 6 })} y refl lx in
+          rw f (usual-from big s at (triple-leads s at (omega arith) d lm c (omega arith)) o v t)
 
 pub ruleset usual = (rules, usual-other, usual-short, usual-long)

@@ -31,13 +31,7 @@ pub fn words(s: Sink, out: &mut Buffer, verdict: Verdict, counted: Counted) -> S
 
 // Whether a module is whole: finished, and its counts not told otherwise.
 fn is_whole(verdict: Verdict, counted: Counted) -> bool {
-    match counted {
-        Counted::NotEqual => false,
-        _ => match verdict {
-            Verdict::Finished => true,
-            _ => false,
-        },
-    }
+    matches!(verdict, Verdict::Finished) && !matches!(counted, Counted::NotEqual)
 }
 
 // Tells the words that wait in a buffer of their own.

@@ -15,7 +15,7 @@ use Rattle.format.specs.Reading.{lent_room, first_high, allowed, takes}
 use Rattle.scan.proofs.Laws.Tests.{was-no, was-yes}
 use Rattle.way_in.specs.WayIn.{high_of, Caps, roomy, fits_from, Rooms, GateIs, takes_by}
 use Rattle.way_in.specs.declared.Lent.{Lent}
-use Rattle.way_in.specs.declared.Gate.TheVariants.{Open, Shut}
+use Rattle.std.specs.Prelude.{Ok, Err}
 
 -- `find_high`
 pub record Looking (s : List ℕ) (i : ℕ) : Type 0 where
@@ -143,21 +143,21 @@ says-fits-from at n b h i w =
 
 -- `admit`
 module _ (s : List ℕ) (b : Lent) {r : Bool} (e : r ≡ roomy b) where
-  pub gate-1 : not r ≡ true → GateIs b s (Shut 1 0)
+  pub gate-1 : not r ≡ true → GateIs b s (Err (record { number = 1; place = 0 }))
   unfolding allowed roomy
   gate-1 h = record { answered = rw (sym e ∙ was-no r h); passed = tt }
 
   module _ (h : not r ≡ false) where
-    pub gate-2 : 65536 < length s → GateIs b s (Shut 2 0)
+    pub gate-2 : 65536 < length s → GateIs b s (Err (record { number = 2; place = 0 }))
     unfolding allowed roomy
     gate-2 i = record { answered = rw (sym e ∙ was-yes r h, lt-leb (length s) 65536 i); passed = tt }
 
     module _ (i : length s ≤ 65536) {x : ℕ} (f : first_high 0 s ≡ high_of (length s) x) where
-      pub gate-3 : x < length s → GateIs b s (Shut 3 x)
+      pub gate-3 : x < length s → GateIs b s (Err (record { number = 3; place = x }))
       unfolding allowed roomy
       gate-3 j = record { answered = rw (sym e ∙ was-yes r h, le-leb (length s) 65536 i, f, lt-ltb x (length s) j); passed = tt }
 
-      pub gate-4 : length s ≤ x → GateIs b s Open
+      pub gate-4 : length s ≤ x → GateIs b s (Ok tt)
       unfolding allowed roomy
       gate-4 j = record { answered = rw (sym e ∙ was-yes r h, le-leb (length s) 65536 i, f, le-ltb x (length s) j); passed = (i, rooms b (sym e ∙ was-yes r h)) }
 

@@ -6,17 +6,17 @@ use mathlib.Core.List.{List}
 use native.Mathlib.Omega.{arith}
 use Rattle.way_in.specs.WayIn.{told_gate, GateIs}
 use Rattle.way_in.specs.declared.Lent.{Lent}
-use Rattle.way_in.specs.declared.Gate.{Gate}
-use Rattle.way_in.specs.declared.Gate.TheVariants.{Open, Shut}
+use Rattle.std.specs.Prelude.{Result, Ok, Err}
+use Rattle.answer.specs.declared.Refusal.{Refusal}
 
-same : (a b : Gate) → told_gate a ≡ told_gate b → a ≡ b
-same Open Open e = refl
-same Open (Shut n p) e = absurd (let z : ◌≡◌ {A = ℕ} 0 1 = cc in omega arith)
-same (Shut n p) Open e = absurd (let z : ◌≡◌ {A = ℕ} 0 1 = cc in omega arith)
-same (Shut n p) (Shut m q) e =
-    let i : n ≡ m = cc in
-    let j : p ≡ q = cc in
-    rw (i, j)
+same : (a b : Result (Unit {0}) Refusal) → told_gate a ≡ told_gate b → a ≡ b
+same (Ok u) (Ok v) e = refl
+same (Ok u) (Err r) e = absurd (let z : ◌≡◌ {A = ℕ} 0 1 = cc in omega arith)
+same (Err r) (Ok u) e = absurd (let z : ◌≡◌ {A = ℕ} 0 1 = cc in omega arith)
+same (Err r) (Err s) e =
+    let i : r.number ≡ s.number = cc in
+    let j : r.place ≡ s.place = cc in
+    λ k. Err (record { number = i k; place = j k })
 
-pub one-gate : (l : Lent) (text : List ℕ) (a b : Gate) → GateIs l text a → GateIs l text b → a ≡ b
+pub one-gate : (l : Lent) (text : List ℕ) (a b : Result (Unit {0}) Refusal) → GateIs l text a → GateIs l text b → a ≡ b
 one-gate l text a b u v = same a b (u.answered ∙ sym v.answered)

@@ -1,13 +1,12 @@
 -- The way in: refusals 1 to 3.
 -- Assumes nothing.
-use Rattle.std.specs.Prelude.{ℕ, ◌≤◌, ◌<◌, ◌≡◌, Bool, true, ◌&&◌, List, length, leb, ltb}
+use Rattle.std.specs.Prelude.{ℕ, ◌≤◌, ◌<◌, ◌≡◌, Bool, true, ◌&&◌, List, Result, Ok, Err, length, leb, ltb}
 use Rattle.std.proofs.Math.Option.{Option, none, some}
 use Rattle.format.specs.Lists.{pick}
 use Rattle.format.specs.Outcome.{Outcome, fine, refused}
 use Rattle.format.specs.Reading as the
 use Rattle.way_in.specs.declared.Lent.{Lent}
-use Rattle.way_in.specs.declared.Gate.{Gate}
-use Rattle.way_in.specs.declared.Gate.TheVariants.{Open, Shut}
+use Rattle.answer.specs.declared.Refusal.{Refusal}
 
 -- the first byte above 127, found at r of n bytes
 abbrev pub high_of : ℕ → ℕ → Option ℕ
@@ -27,9 +26,9 @@ roomy b = the.lent_room (lent_of b)
 unfoldable pub fits_from : (at n : ℕ) → Lent → Bool
 fits_from at n b = leb at n && leb n 65536 && roomy b
 
-abbrev pub told_gate : Gate → Outcome ℕ
-told_gate Open = fine 0
-told_gate (Shut n p) = refused n p
+abbrev pub told_gate : Result (Unit {0}) Refusal → Outcome ℕ
+told_gate (Ok u) = fine 0
+told_gate (Err r) = refused r.number r.place
 
 -- the lent buffers have room
 pub record Rooms (areas symbols values masks fixups : ℕ) : Type 0 where
@@ -39,11 +38,11 @@ pub record Rooms (areas symbols values masks fixups : ℕ) : Type 0 where
   pub for-masks : 65536 ≤ masks
   pub for-fixups : 9216 ≤ fixups
 
-abbrev pub Passed : ℕ → Lent → Gate → Type 0
-Passed n b Open = (n ≤ 65536) × (Rooms b.areas b.symbols b.values b.masks b.fixups)
-Passed n b (Shut k p) = Unit {0}
+abbrev pub Passed : ℕ → Lent → Result (Unit {0}) Refusal → Type 0
+Passed n b (Ok u) = (n ≤ 65536) × (Rooms b.areas b.symbols b.values b.masks b.fixups)
+Passed n b (Err r) = Unit {0}
 
-pub record GateIs (b : Lent) (text : List ℕ) (r : Gate) : Type 0 where
+pub record GateIs (b : Lent) (text : List ℕ) (r : Result (Unit {0}) Refusal) : Type 0 where
   pub answered : told_gate r ≡ the.allowed (lent_of b) text
   pub passed : Passed (length text) b r
 

@@ -5,6 +5,7 @@ ghost use Rattle.std.specs.Prelude.{◌≡◌, ◌≤◌, length};
 ghost use Rattle.format.specs.Reading.{first_high, takes as takes_radix};
 ghost use Rattle.way_in.specs.WayIn.{high_of, Caps, roomy, fits_from, GateIs, takes_by};
 
+use answer::Refusal;
 use rooms::{AREA_ROOM, FIXUP_ROOM, IMAGE_ROOM, SYMBOL_ROOM, TEXT_ROOM};
 
 // How long the lent buffers are.
@@ -17,12 +18,8 @@ pub struct Lent {
     pub fixups: usize,
 }
 
-// Whether a text may be read; else the refusal with its place.
-#[derive(Clone, Copy)]
-pub enum Gate {
-    Open,
-    Shut { number: u32, at: usize },
-}
+// The lowest byte that no text may have.
+const HIGH: u8 = 128;
 
 // The greater of two bytes.
 fn greater(a: u8, b: u8) -> u8
@@ -36,10 +33,8 @@ fn highest(t: &[u8]) -> u8
     ensures { Caps result t.now }
 {
     let mut h = 0;
-    let mut i = 0;
-    while i < t.len() {
-        h = greater(h, t[i]);
-        i += 1;
+    for b in t {
+        h = greater(h, *b);
     }
     h
 }
@@ -48,21 +43,19 @@ fn highest(t: &[u8]) -> u8
 fn find_high(t: &[u8]) -> usize
     ensures { first_high 0 t.now ≡ high_of (length t.now) result }
 {
-    let mut i = 0;
-    while i < t.len() {
-        if 128 <= t[i] {
+    for (i, b) in t.iter().enumerate() {
+        if HIGH <= *b {
             return i;
         }
-        i += 1;
     }
-    i
+    t.len()
 }
 
 // The same, without the search where no byte is above 127.
 fn first_high(t: &[u8]) -> usize
     ensures { first_high 0 t.now ≡ high_of (length t.now) result }
 {
-    if highest(t) < 128 {
+    if highest(t) < HIGH {
         return t.len();
     }
     find_high(t)
@@ -87,21 +80,30 @@ fn has_room(lent: Lent) -> bool
     FIXUP_ROOM <= lent.fixups
 }
 
-// Whether a text may be read into buffers of these lengths.
-pub fn admit(t: &[u8], lent: Lent) -> Gate
+// Whether a text may be read into buffers of these lengths; else its refusal.
+pub fn admit(t: &[u8], lent: Lent) -> Result<(), Refusal>
     ensures { GateIs lent t.now result }
 {
     if !has_room(lent) {
-        return Gate::Shut { number: 1, at: 0 };
+        return Err(Refusal {
+            number: 1,
+            place: 0,
+        });
     }
     if TEXT_ROOM < t.len() {
-        return Gate::Shut { number: 2, at: 0 };
+        return Err(Refusal {
+            number: 2,
+            place: 0,
+        });
     }
     let h = first_high(t);
     if h < t.len() {
-        return Gate::Shut { number: 3, at: h };
+        return Err(Refusal {
+            number: 3,
+            place: h,
+        });
     }
-    Gate::Open
+    Ok(())
 }
 
 // Whether the lines from a place on, of a text of n bytes, may be read into buffers of these lengths.

@@ -11,6 +11,7 @@ use lib.ListN.{length, take, drop, replicate}
 use lib.Seq.{length-take-le, drop-drop}
 use borrow.Author.Rules.{rules}
 use borrow.Author.Tests.{not-true, not-false}
+use Rattle.std.specs.Prelude.{Option as Answer, Some, None}
 use Rattle.format.specs.Lists.{pick}
 use Rattle.format.specs.Outcome.{Outcome, fine, refused}
 use Rattle.format.specs.WorkLine.{padded, work_line, beyond, step_at, fresh}
@@ -21,8 +22,6 @@ use Rattle.sites.specs.Columns.{fragment_at, fragments_in}
 use Rattle.sites.specs.Site.{line_fits, Short}
 use Rattle.sites.proofs.Fitting.{Lined, lined}
 use Rattle.fresh_line.specs.Fresh.{LaidLine}
-use Rattle.work.specs.declared.Worked.{Worked}
-use Rattle.work.specs.declared.Worked.TheVariants.{Beyond, Numbers}
 use Rattle.work.specs.Work.{line_of, turn_of, Reach, reach, reach_by, Turned, Reached, WorkIs}
 
 -- what lies behind a place lies behind each later one
@@ -51,7 +50,7 @@ unfolding fragments_in reach_by
 work_start l ms es wv wm wk ns = record { long = refl; within = omega arith; few = omega arith; rest = λ xs. let e : l.fragments - 0 ≡ l.fragments = omega arith in rw e; behind = refl }
 
 -- what was reached, by the line and the numbers that the code has then
-reached : {o : (xs : List ℕ) → Reach} {c : ℕ} {ns₀ wv wm wk ns : List ℕ} {m : ℕ} (all : Bool) {r : Worked} → r ≡ pick all (Numbers m) Beyond
+reached : {o : (xs : List ℕ) → Reach} {c : ℕ} {ns₀ wv wm wk ns : List ℕ} {m : ℕ} (all : Bool) {r : Answer ℕ} → r ≡ pick all (Some m) None
     → ((xs : List ℕ) → o xs ≡ record { all = all; line = line_of wv wm wk ns m }) → length (take m ns) ≡ m → drop m ns ≡ drop m ns₀ → m ≤ c → Reached o c ns₀ r wv wm wk ns
 unfolding line_of
 reached {m = m} true er e h b few = record {
@@ -71,7 +70,7 @@ module _ {l : Line} {ms es : List ℕ} {d : defs.Worked} {ns₀ wv wm wk ns : Li
   made : length (take m ns) ≡ m
   made = length-take-le m ns (omega (arith, w.long, w.few, w.within, s.fragments))
 
-  pub work-end : l.fragments ≤ i → Reached (reach_by l ms es d) l.fragments ns₀ (Numbers m) wv wm wk ns
+  pub work-end : l.fragments ≤ i → Reached (reach_by l ms es d) l.fragments ns₀ (Some m) wv wm wk ns
   unfolding reach from
   work-end h = reached true refl (λ xs. let z : l.fragments - i ≡ 0 = omega arith in w.rest xs ∙ rw z) made w.behind (omega (arith, w.few, w.within))
 
@@ -88,15 +87,15 @@ module _ {l : Line} {ms es : List ℕ} {d : defs.Worked} {ns₀ wv wm wk ns : Li
     next xs = let z : l.fragments - i ≡ suc (l.fragments - suc i) = omega arith in
         w.rest xs ∙ ap (λ (k : ℕ). reach l.width l.big l.bytes (from (fragment_at ms es xs) i k) (line_of wv wm wk ns m)) z
 
-    module _ {wv' wm' wk' ns' : List ℕ} {r : Worked} (t : Turned l ms es i wv wm wk ns m r wv' wm' wk' ns') where
-      pub work-beyond : r ≡ Beyond → Reached (reach_by l ms es d) l.fragments ns₀ Beyond wv' wm' wk' ns'
+    module _ {wv' wm' wk' ns' : List ℕ} {r : Answer ℕ} (t : Turned l ms es i wv wm wk ns m r wv' wm' wk' ns') where
+      pub work-beyond : r ≡ None → Reached (reach_by l ms es d) l.fragments ns₀ None wv' wm' wk' ns'
       unfolding turn_of
       work-beyond g =
           let q = t.still g in
           rw (q.0, q.1.0, q.1.1.0, q.1.1.1)
           (reached false refl (λ xs. next xs ∙ rw (stops (beyond l.width l.bytes (fragment_at ms es xs i)) 0 _ (rw g at (t.says xs 0)))) made w.behind (omega (arith, w.few, w.within)))
 
-      pub work-more : {k : ℕ} → r ≡ Numbers k → length ns' ≡ length ns → Working l ms es d ns₀ wv' wm' wk' ns' k (i + 1)
+      pub work-more : {k : ℕ} → r ≡ Some k → length ns' ≡ length ns → Working l ms es d ns₀ wv' wm' wk' ns' k (i + 1)
       unfolding turn_of
       work-more {k} g q = record {
         long = q ∙ w.long;
@@ -111,7 +110,7 @@ pub ruleset working = (rules, work_start, work-end, work-room, work-few, work-be
 -- ------------------------------------------------------------------ `work_line`
 
 module _ (l : Line) (bs ms es wv₀ wm₀ wk₀ ns : List ℕ) {c : Bool} (ec : c ≡ line_fits l (length bs)) where
-  pub line-unfit : not c ≡ true → {wv wm wk : List ℕ} → LaidLine l bs wv₀ wm₀ wk₀ wv wm wk → WorkIs l bs ms es wv₀ wm₀ wk₀ ns Beyond wv wm wk ns
+  pub line-unfit : not c ≡ true → {wv wm wk : List ℕ} → LaidLine l bs wv₀ wm₀ wk₀ wv wm wk → WorkIs l bs ms es wv₀ wm₀ wk₀ ns None wv wm wk ns
   line-unfit k d = record {
     says = λ e. let z : false ≡ true = sym (not-true c k) ∙ (ec ∙ e) in let y : ◌≡◌ {A = ℕ} 0 1 = cc in absurd (omega arith);
     unfit = λ e. (refl, (rw e at d.values, (rw e at d.masks, (rw e at d.keeps, refl))));
@@ -127,7 +126,7 @@ module _ (l : Line) (bs ms es wv₀ wm₀ wk₀ ns : List ℕ) {c : Bool} (ec : 
     pub line-short : Short l
     line-short = facts.line
 
-    pub line-worked : {wv wm wk : List ℕ} → LaidLine l bs wv₀ wm₀ wk₀ wv wm wk → {r : Worked} {wv' wm' wk' ns' : List ℕ} → Reached (reach_by l ms es (line_of wv wm wk ns 0)) l.fragments ns r wv' wm' wk' ns'
+    pub line-worked : {wv wm wk : List ℕ} → LaidLine l bs wv₀ wm₀ wk₀ wv wm wk → {r : Answer ℕ} {wv' wm' wk' ns' : List ℕ} → Reached (reach_by l ms es (line_of wv wm wk ns 0)) l.fragments ns r wv' wm' wk' ns'
         → WorkIs l bs ms es wv₀ wm₀ wk₀ ns r wv' wm' wk' ns'
     unfolding line_of fresh work_line
     line-worked {wv} {wm} {wk} d t =

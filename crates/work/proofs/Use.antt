@@ -6,6 +6,7 @@ use mathlib.Core.Bool.{Bool, true, false}
 use mathlib.Core.List.{List, [], ◌∷◌}
 use lib.Dec.{leb}
 use lib.ListN.{length, take}
+use Rattle.std.specs.Prelude.{Option as Answer, Some, None}
 use Rattle.format.specs.Lists.{pick}
 use Rattle.format.specs.Header.{Form}
 use Rattle.format.specs.Pairs.{Fragment}
@@ -15,8 +16,6 @@ use Rattle.format.specs.WorkLine as defs
 use Rattle.sites.specs.declared.Line.{Line}
 use Rattle.sites.specs.Columns.{fragments_in}
 use Rattle.sites.specs.Site.{line_fits}
-use Rattle.work.specs.declared.Worked.{Worked}
-use Rattle.work.specs.declared.Worked.TheVariants.{Beyond, Numbers}
 use Rattle.work.specs.Work.{line_of, turn_of, turns, all_turns, told, Reach, reach, reach_by, Reached, WorkIs, Whole}
 
 -- 10 for each fragment and then its step, or 10 for all and then all steps: the same
@@ -49,13 +48,13 @@ turns-reach a big n place (f ∷ fs) d = go (beyond a n f) (turns-reach a big n 
     go false ih = ih
 
 -- what the answer tells of a reach
-told-by : (o : Reach) (place : ℕ) (r : Worked) (wv wm wk ns : List ℕ) → (b : Bool) → o.all ≡ b → r ≡ pick b (Numbers (length o.line.numbers)) Beyond → o.line ≡ line_of wv wm wk ns (length o.line.numbers)
+told-by : (o : Reach) (place : ℕ) (r : Answer ℕ) (wv wm wk ns : List ℕ) → (b : Bool) → o.all ≡ b → r ≡ pick b (Some (length o.line.numbers)) None → o.line ≡ line_of wv wm wk ns (length o.line.numbers)
     → told place r wv wm wk ns ≡ pick b (fine o.line) (refused 10 place)
 told-by o place r wv wm wk ns true e a q = rw a (ap fine (sym q))
 told-by o place r wv wm wk ns false e a q = rw a
 
 -- a line within the bounds: its answer is the outcome of all turns
-pub whole_by : {l : Line} {bs ms es wv wm wk ns : List ℕ} {r : Worked} {wv' wm' wk' ns' : List ℕ} → WorkIs l bs ms es wv wm wk ns r wv' wm' wk' ns' → line_fits l (length bs) ≡ true
+pub whole_by : {l : Line} {bs ms es wv wm wk ns : List ℕ} {r : Answer ℕ} {wv' wm' wk' ns' : List ℕ} → WorkIs l bs ms es wv wm wk ns r wv' wm' wk' ns' → line_fits l (length bs) ≡ true
     → Whole (all_turns l ms es (fresh l.width (take l.bytes bs))) l.fragments r wv' wm' wk' ns'
 unfolding all_turns reach_by
 whole_by {l} {bs} {ms} {es} {r = r} {wv'} {wm'} {wk'} {ns'} w h =

@@ -15,6 +15,7 @@ use borrow.Author.Tests.{ltb-false, le-leb, lt-leb}
 use borrow.Rule.Slice.PartMut.{put_mid}
 use mir.Val.{Fits}
 use mir.Syntax.{w64}
+use Rattle.std.specs.Prelude.{Option as Answer, Some, None}
 use Rattle.format.specs.Lists.{pick}
 use Rattle.format.specs.Mode.{Class, class_of, bit, touched, touched_of}
 use Rattle.format.specs.ModeStep.{number_by_of, values_by, masks_by, keeps_by, step_number, step_values, step_masks, step_keeps_of}
@@ -23,12 +24,8 @@ use Rattle.format.specs.WorkLine.{beyond, step_at, partly}
 use Rattle.format.specs.WorkLine as defs
 use Rattle.laws.specs.Rows.{from}
 use Rattle.laws.proofs.Parts.{part_end, put-end}
-use Rattle.mode_step.specs.declared.step.Step.{Step}
-use Rattle.mode_step.specs.declared.step.Step.TheVariants.{Number, Short}
 use Rattle.mode_step.specs.Step as modes
 use Rattle.sites.specs.declared.Line.{Line}
-use Rattle.work.specs.declared.Worked.{Worked}
-use Rattle.work.specs.declared.Worked.TheVariants.{Beyond, Numbers}
 use Rattle.sites.specs.Columns.{fragment_at, fragments_in}
 use Rattle.work.specs.Work.{line_of, turn_of, told, Reach, reach, reach_by, Applied, Turned, Reached}
 use Rattle.sites.specs.Site as site
@@ -36,7 +33,7 @@ use Rattle.sites.specs.Site as site
 -- ------------------------------------------------------------------ a fragment
 
 -- `apply`
-pub on-parts : {c : Class} {three big : Bool} {entry : ℕ} {r : Step} (wv wm wk : List ℕ) {vs' ms' ks' : List ℕ}
+pub on-parts : {c : Class} {three big : Bool} {entry : ℕ} {r : Answer ℕ} (wv wm wk : List ℕ) {vs' ms' ks' : List ℕ}
     → entry + touched_of c three ≤ length wv → entry + touched_of c three ≤ length wm → entry + touched_of c three ≤ length wk
     → modes.Modified c three big r (take (length wv - entry) (drop entry wv)) (take (length wm - entry) (drop entry wm)) (take (length wk - entry) (drop entry wk)) vs' ms' ks'
     → Applied c three big entry r wv wm wk (put_mid entry (length wv - entry) wv vs') (put_mid entry (length wm - entry) wm ms') (put_mid entry (length wk - entry) wk ks')
@@ -63,7 +60,7 @@ behind-pushed ns m x e = rw e (drop-set-lt (m + 1) ns m x (omega arith))
 
 -- `turn`
 pub turn_low : (l : Line) (ms es : List ℕ) (i : ℕ) (wv wm wk ns : List ℕ) (m : ℕ) {e entry : ℕ} → e ≡ get_or es i 0 → entry ≡ e → entry < l.width
-    → Turned l ms es i wv wm wk ns m (Numbers m) wv wm wk ns
+    → Turned l ms es i wv wm wk ns m (Some m) wv wm wk ns
 unfolding turn_of beyond fragment_at
 turn_low l ms es i wv wm wk ns m {entry = entry} ee ew h = record {
   says = λ xs place. rw (← ee, ← ew, lt-leb l.width entry h);
@@ -72,7 +69,7 @@ turn_low l ms es i wv wm wk ns m {entry = entry} ee ew h = record {
   behind = λ k e. let q : m ≡ k = cc in (omega arith, refl);
 }
 
-pub turn_on : (l : Line) (ms es : List ℕ) (i : ℕ) {e entry mode : ℕ} → mode ≡ get_or ms i 0 → e ≡ get_or es i 0 → entry ≡ e → l.width ≤ entry → {wv wm wk ns : List ℕ} {m : ℕ} {r : Worked} {wv' wm' wk' ns' : List ℕ}
+pub turn_on : (l : Line) (ms es : List ℕ) (i : ℕ) {e entry mode : ℕ} → mode ≡ get_or ms i 0 → e ≡ get_or es i 0 → entry ≡ e → l.width ≤ entry → {wv wm wk ns : List ℕ} {m : ℕ} {r : Answer ℕ} {wv' wm' wk' ns' : List ℕ}
     → ((ys zs : List ℕ) (j : ℕ) → mode ≡ get_or ys j 0 → entry ≡ get_or zs j 0 → l.width ≤ entry → Turned l ys zs j wv wm wk ns m r wv' wm' wk' ns') → Turned l ms es i wv wm wk ns m r wv' wm' wk' ns'
 turn_on l ms es i em ee ew h f = f ms es i em (ew ∙ ee) h
 
@@ -87,7 +84,7 @@ module _ (l : Line) (mode entry : ℕ) (wv wm wk ns : List ℕ) (m : ℕ) {k : C
   unfolding touched bit fragment_at
   touched-is ms es xs i em = rw (ek, em)
 
-  pub turn-beyond : b ≡ true → (ms es : List ℕ) (i : ℕ) → mode ≡ get_or ms i 0 → entry ≡ get_or es i 0 → l.width ≤ entry → Turned l ms es i wv wm wk ns m Beyond wv wm wk ns
+  pub turn-beyond : b ≡ true → (ms es : List ℕ) (i : ℕ) → mode ≡ get_or ms i 0 → entry ≡ get_or es i 0 → l.width ≤ entry → Turned l ms es i wv wm wk ns m None wv wm wk ns
   unfolding turn_of beyond fragment_at
   turn-beyond g ms es i em ee h = record {
     says = λ xs place. rw (← ee, touched-is ms es xs i em, le-leb l.width entry h, ← eb, g);
@@ -97,12 +94,12 @@ module _ (l : Line) (mode entry : ℕ) (wv wm wk ns : List ℕ) (m : ℕ) {k : C
   }
 
   module _ (g : b ≡ false) where
-    module _ {r : Step} {wv' wm' wk' : List ℕ} (p : Applied k (eqb (mode / 256 % 2) 1) l.big entry r wv wm wk wv' wm' wk') where
-      pub turn-never : r ≡ Short → {ns'' : List ℕ} → (ms es : List ℕ) (i : ℕ) → mode ≡ get_or ms i 0 → entry ≡ get_or es i 0 → l.width ≤ entry → Turned l ms es i wv wm wk ns m Beyond wv' wm' wk' ns''
+    module _ {r : Answer ℕ} {wv' wm' wk' : List ℕ} (p : Applied k (eqb (mode / 256 % 2) 1) l.big entry r wv wm wk wv' wm' wk') where
+      pub turn-never : r ≡ None → {ns'' : List ℕ} → (ms es : List ℕ) (i : ℕ) → mode ≡ get_or ms i 0 → entry ≡ get_or es i 0 → l.width ≤ entry → Turned l ms es i wv wm wk ns m None wv' wm' wk' ns''
       turn-never s ms es i em ee h = let z : none ≡ some (number_by_of l.big k (drop entry wv)) = rw s at p.number in let y : ◌≡◌ {A = ℕ} 0 1 = cc in absurd (omega arith)
 
-      pub turn-steps : {x : ℕ} → r ≡ Number x → {y : ℕ} → y ≡ m + 1 → {ns' : List ℕ} → take (m + 1) ns' ≡ take m ns ++ x ∷ [] → drop (m + 1) ns' ≡ drop (m + 1) ns
-          → (ms es : List ℕ) (i : ℕ) → mode ≡ get_or ms i 0 → entry ≡ get_or es i 0 → l.width ≤ entry → Turned l ms es i wv wm wk ns m (Numbers y) wv' wm' wk' ns'
+      pub turn-steps : {x : ℕ} → r ≡ Some x → {y : ℕ} → y ≡ m + 1 → {ns' : List ℕ} → take (m + 1) ns' ≡ take m ns ++ x ∷ [] → drop (m + 1) ns' ≡ drop (m + 1) ns
+          → (ms es : List ℕ) (i : ℕ) → mode ≡ get_or ms i 0 → entry ≡ get_or es i 0 → l.width ≤ entry → Turned l ms es i wv wm wk ns m (Some y) wv' wm' wk' ns'
       unfolding turn_of beyond step_at line_of step_number step_values step_masks step_keeps_of bit fragment_at
       turn-steps {x} s {y} er {ns'} q o ms es i em ee h =
           let nx : some x ≡ some (number_by_of l.big k (drop entry wv)) = rw s at p.number in

@@ -1,6 +1,6 @@
 -- The fragments of a pair worked into its work line, 10 ruled out as they come: what the code does, and what its answers say.
 -- Assumes nothing.
-use Rattle.std.specs.Prelude.{ℕ, ◌+◌, ◌≤◌, ◌≡◌, Bool, true, false, List, [], ◌∷◌, leb, length, take, drop}
+use Rattle.std.specs.Prelude.{ℕ, ◌+◌, ◌≤◌, ◌≡◌, Bool, true, false, List, [], ◌∷◌, Option as Answer, Some, None, leb, length, take, drop}
 use Rattle.std.proofs.Math.Option.{some}
 use Rattle.format.specs.Lists.{pick}
 use Rattle.format.specs.Header.{Form}
@@ -10,11 +10,8 @@ use Rattle.format.specs.Mode.{Class}
 use Rattle.format.specs.ModeStep.{number_by_of, values_by, masks_by, keeps_by}
 use Rattle.format.specs.WorkLine.{beyond, step_at, partly, fresh}
 use Rattle.format.specs.WorkLine as defs
-use Rattle.mode_step.specs.declared.step.Step.{Step}
 use Rattle.mode_step.specs.Step.{told_step}
 use Rattle.sites.specs.declared.Line.{Line}
-use Rattle.work.specs.declared.Worked.{Worked}
-use Rattle.work.specs.declared.Worked.TheVariants.{Beyond, Numbers}
 use Rattle.sites.specs.Columns.{fragment_at, fragments_in}
 use Rattle.sites.specs.Site.{line_fits}
 
@@ -43,27 +40,27 @@ unfoldable pub all_turns : Line → (ms es : List ℕ) → defs.Worked → (xs :
 all_turns l ms es d xs place = turns l.width l.big l.bytes place (fragments_in ms es xs l.fragments) d
 
 -- what an answer says, with the arrays as they are then
-abbrev pub told : (place : ℕ) → Worked → (wv wm wk ns : List ℕ) → Outcome defs.Worked
-told place Beyond wv wm wk ns = refused 10 place
-told place (Numbers k) wv wm wk ns = fine (line_of wv wm wk ns k)
+abbrev pub told : (place : ℕ) → Answer ℕ → (wv wm wk ns : List ℕ) → Outcome defs.Worked
+told place None wv wm wk ns = refused 10 place
+told place (Some k) wv wm wk ns = fine (line_of wv wm wk ns k)
 
-abbrev pub made_by : Worked → ℕ
-made_by Beyond = 0
-made_by (Numbers k) = k
+abbrev pub made_by : Answer ℕ → ℕ
+made_by None = 0
+made_by (Some k) = k
 
 -- a class's step, done to the parts from an entry on
-pub record Applied (c : Class) (three big : Bool) (entry : ℕ) (r : Step) (wv wm wk wv' wm' wk' : List ℕ) : Type 0 where
+pub record Applied (c : Class) (three big : Bool) (entry : ℕ) (r : Answer ℕ) (wv wm wk wv' wm' wk' : List ℕ) : Type 0 where
   pub number : told_step r ≡ some (number_by_of big c (drop entry wv))
   pub values : wv' ≡ partly entry (values_by c three) wv
   pub masks : wm' ≡ partly entry (masks_by c three) wm
   pub keeps : wk' ≡ partly entry (keeps_by c three) wk
 
 -- a turn's answer: what it says, that it made one number at most, that it changed nothing where the fragment runs past the line, and that the numbers behind are as they were
-pub record Turned (l : Line) (ms es : List ℕ) (i : ℕ) (wv wm wk ns : List ℕ) (m : ℕ) (r : Worked) (wv' wm' wk' ns' : List ℕ) : Type 0 where
+pub record Turned (l : Line) (ms es : List ℕ) (i : ℕ) (wv wm wk ns : List ℕ) (m : ℕ) (r : Answer ℕ) (wv' wm' wk' ns' : List ℕ) : Type 0 where
   pub says : (xs : List ℕ) (place : ℕ) → told place r wv' wm' wk' ns' ≡ turn_of l.width l.big l.bytes place (fragment_at ms es xs i) (line_of wv wm wk ns m)
   pub few : made_by r ≤ m + 1
-  pub still : r ≡ Beyond → (wv' ≡ wv) × ((wm' ≡ wm) × ((wk' ≡ wk) × (ns' ≡ ns)))
-  pub behind : (k : ℕ) → r ≡ Numbers k → (m ≤ k) × (drop k ns' ≡ drop k ns)
+  pub still : r ≡ None → (wv' ≡ wv) × ((wm' ≡ wm) × ((wk' ≡ wk) × (ns' ≡ ns)))
+  pub behind : (k : ℕ) → r ≡ Some k → (m ≤ k) × (drop k ns' ≡ drop k ns)
 
 -- how far the fragments go: whether none runs past the line, and the line and the numbers up to the one that does
 pub record Reach : Type 0 where
@@ -79,18 +76,18 @@ unfoldable pub reach_by : Line → (ms es : List ℕ) → defs.Worked → (xs : 
 reach_by l ms es d xs = reach l.width l.big l.bytes (fragments_in ms es xs l.fragments) d
 
 -- what is answered and left then: the line, the numbers, behind them what was there, and no more numbers than fragments
-pub record Reached (o : (xs : List ℕ) → Reach) (c : ℕ) (ns : List ℕ) (r : Worked) (wv' wm' wk' ns' : List ℕ) : Type 0 where
-  pub answer : (xs : List ℕ) → r ≡ pick (o xs).all (Numbers (length (o xs).line.numbers)) Beyond
+pub record Reached (o : (xs : List ℕ) → Reach) (c : ℕ) (ns : List ℕ) (r : Answer ℕ) (wv' wm' wk' ns' : List ℕ) : Type 0 where
+  pub answer : (xs : List ℕ) → r ≡ pick (o xs).all (Some (length (o xs).line.numbers)) None
   pub line : (xs : List ℕ) → (o xs).line ≡ line_of wv' wm' wk' ns' (length (o xs).line.numbers)
   pub behind : (xs : List ℕ) → drop (length (o xs).line.numbers) ns' ≡ drop (length (o xs).line.numbers) ns
   pub few : made_by r ≤ c
 
 -- the whole: a line that is not within the bounds is beyond as it is, and nothing changes
-pub record WorkIs (l : Line) (bs ms es wv wm wk ns : List ℕ) (r : Worked) (wv' wm' wk' ns' : List ℕ) : Type 0 where
+pub record WorkIs (l : Line) (bs ms es wv wm wk ns : List ℕ) (r : Answer ℕ) (wv' wm' wk' ns' : List ℕ) : Type 0 where
   pub says : line_fits l (length bs) ≡ true → Reached (reach_by l ms es (fresh l.width (take l.bytes bs))) l.fragments ns r wv' wm' wk' ns'
-  pub unfit : line_fits l (length bs) ≡ false → (r ≡ Beyond) × ((wv' ≡ wv) × ((wm' ≡ wm) × ((wk' ≡ wk) × (ns' ≡ ns))))
+  pub unfit : line_fits l (length bs) ≡ false → (r ≡ None) × ((wv' ≡ wv) × ((wm' ≡ wm) × ((wk' ≡ wk) × (ns' ≡ ns))))
 
 -- all turns: what the definition says at each place, and no more numbers than fragments
-pub record Whole (o : (xs : List ℕ) (place : ℕ) → Outcome defs.Worked) (c : ℕ) (r : Worked) (wv' wm' wk' ns' : List ℕ) : Type 0 where
+pub record Whole (o : (xs : List ℕ) (place : ℕ) → Outcome defs.Worked) (c : ℕ) (r : Answer ℕ) (wv' wm' wk' ns' : List ℕ) : Type 0 where
   pub says : (xs : List ℕ) (place : ℕ) → told place r wv' wm' wk' ns' ≡ o xs place
   pub few : made_by r ≤ c

@@ -12,15 +12,8 @@ use cells::{at, put_u32, wide};
 use fresh_line::lay_line;
 use line_end::runs_past;
 use mode::{JumpType, class_of};
-use mode_step::{Step, modify_cmf_to_fixup};
+use mode_step::modify_cmf_to_fixup;
 use sites::Line;
-
-// That a fragment's entries run past the line, or how many numbers are made.
-#[derive(Clone, Copy)]
-pub enum Worked {
-    Beyond,
-    Numbers(usize),
-}
 
 // A fragment's part of the work line, from its entry on, goes to the mode step.
 fn apply(
@@ -31,7 +24,7 @@ fn apply(
     wv: &mut [u8],
     wm: &mut [u8],
     wk: &mut [u8],
-) -> Step
+) -> Option<u32>
     requires three_in_bounds { entry + touched_of (told_class class) three ≤ length wv.old }
     requires three_in_bounds_2 { entry + touched_of (told_class class) three ≤ length wm.old }
     requires three_in_bounds_3 { entry + touched_of (told_class class) three ≤ length wk.old }
@@ -56,7 +49,7 @@ fn push(ns: &mut [u32], m: usize, x: u32) -> usize
     m + 1
 }
 
-// A fragment of a mode whose entry is at least A, with m numbers made before it.
+// A fragment of a mode whose entry is at least A, with m numbers made before it: how many are made then, or none where its entries run past the line.
 fn work_in(
     line: Line,
     mode: u32,
@@ -66,7 +59,7 @@ fn work_in(
     wk: &mut [u8; 260],
     ns: &mut [u32],
     m: usize,
-) -> Worked
+) -> Option<usize>
     requires short { Short line }
     requires m_in_bounds { (m < length ns.old) × (m < 64) }
     ensures { (ms es : List ℕ) (i : ℕ) → mode ≡ get_or ms i 0 → entry ≡ get_or es i 0 → line.width ≤ entry → Turned line ms es i wv.old wm.old wk.old ns.old m result wv.new wm.new wk.new ns.new }
@@ -74,15 +67,13 @@ fn work_in(
     let class = class_of(mode);
     let three = mode / 256 % 2 == 1;
     if runs_past(line.width + line.bytes, class, three, entry) {
-        return Worked::Beyond;
+        return None;
     }
-    let Step::Number(x) = apply(class, three, line.big, entry, wv, wm, wk) else {
-        return Worked::Beyond;
-    };
-    Worked::Numbers(push(ns, m, x))
+    let x = apply(class, three, line.big, entry, wv, wm, wk)?;
+    Some(push(ns, m, x))
 }
 
-// The i-th fragment: one whose entry is below A does nothing here.
+// The i-th fragment, and how many numbers are made then, or none where it runs past the line: one whose entry is below A does nothing here.
 fn turn(
     line: Line,
     ms: &[u32],
@@ -93,19 +84,19 @@ fn turn(
     wk: &mut [u8; 260],
     ns: &mut [u32],
     m: usize,
-) -> Worked
+) -> Option<usize>
     requires short { Short line }
     requires m_in_bounds { (m < length ns.old) × (m < 64) }
     ensures { Turned line ms.now es.now i wv.old wm.old wk.old ns.old m result wv.new wm.new wk.new ns.new }
 {
     let entry = wide(at(es, i));
     if entry < line.width {
-        return Worked::Numbers(m);
+        return Some(m);
     }
     work_in(line, at(ms, i), entry, wv, wm, wk, ns, m)
 }
 
-// All fragments, in order, up to one that runs past the line.
+// All fragments, in order, and how many numbers they made; or none, up to one that runs past the line.
 fn work_all(
     line: Line,
     ms: &[u32],
@@ -114,24 +105,19 @@ fn work_all(
     wm: &mut [u8; 260],
     wk: &mut [u8; 260],
     ns: &mut [u32],
-) -> Worked
+) -> Option<usize>
     requires short { Short line }
     requires in_bounds { 64 ≤ length ns.old }
     ensures { Reached (reach_by line ms.now es.now (line_of wv.old wm.old wk.old ns.old 0)) line.fragments ns.old result wv.new wm.new wk.new ns.new }
 {
     let mut m: usize = 0;
-    let mut i: usize = 0;
-    while i < line.fragments {
-        let Worked::Numbers(k) = turn(line, ms, es, i, wv, wm, wk, ns, m) else {
-            return Worked::Beyond;
-        };
-        m = k;
-        i += 1;
+    for i in 0..line.fragments {
+        m = turn(line, ms, es, i, wv, wm, wk, ns, m)?;
     }
-    Worked::Numbers(m)
+    Some(m)
 }
 
-// The work line of a pair, from its content to its fragments worked in, up to one that runs past the line. A line that is not within the bounds is beyond as it is, and nothing is laid.
+// The work line of a pair, from its content to its fragments worked in, and how many numbers they made; or none, where one runs past the line, up to which all are worked in, and where the line is not within the bounds, so that nothing is laid.
 pub fn work_line(
     line: Line,
     bs: &[u8],
@@ -141,11 +127,11 @@ pub fn work_line(
     wm: &mut [u8; 260],
     wk: &mut [u8; 260],
     ns: &mut [u32; 64],
-) -> Worked
+) -> Option<usize>
     ensures { WorkIs line bs.now ms.now es.now wv.old wm.old wk.old ns.old result wv.new wm.new wk.new ns.new }
 {
     if !lay_line(line, bs, wv, wm, wk) {
-        return Worked::Beyond;
+        return None;
     }
     work_all(line, ms, es, wv, wm, wk, ns)
 }

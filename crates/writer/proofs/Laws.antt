@@ -23,9 +23,9 @@ use Rattle.header.specs.declared.Width.{Width}
 use Rattle.header.specs.declared.Width.TheVariants.{Four, Three, Two}
 use Rattle.digits_out.specs.Wrote.{Wrote, capped, farthest}
 use Rattle.digits_out.proofs.Laws.{place_in, place_out}
-use Rattle.admission.specs.Admits.{GateIs, IsRead, Passes}
-use Rattle.admission.specs.declared.Gate.{Gate}
-use Rattle.admission.specs.declared.Gate.TheVariants.{Open, Shut}
+use Rattle.std.specs.Prelude.{Ok, Err}
+use Rattle.answer.specs.declared.Refusal as answers
+use Rattle.admission.specs.Admits.{Gate, GateIs, IsRead, Passes}
 use Rattle.row_texts.specs.RowRecords.{Rows, lent, text_of}
 use Rattle.row_texts.specs.GivesBack.{GivesBack}
 use Rattle.row_texts.specs.GoodRows.{all, good_area, good_pairs, good_rows, good_symbols}
@@ -79,13 +79,13 @@ module _ (own : List ℕ) (n : ℕ) (out : List ℕ) where
     w : GateIs (take n own) g
     w = subst (λ (l : List ℕ). GateIs l g) (e₀ ∙ first_part h) w₀
 
-    pub lay-shut : {k p : ℕ} → g ≡ Shut k p → Lays own n out (refusal 15 0) out
-    lay-shut {k} {p} e = record { gives = false; tells = λ s. shut (rw e at w.passes) s; says = sym (answered-15 n out); held = sym (kept-by-15 n (take n own) out) }
+    pub lay-shut : {z : answers.Refusal} → g ≡ Err z → Lays own n out (refusal 15 0) out
+    lay-shut {z} e = record { gives = false; tells = λ s. shut (rw e at w.passes) s; says = sym (answered-15 n out); held = sym (kept-by-15 n (take n own) out) }
       where
-        shut : Passes (take n own) (Shut k p) → Stands own n → ⊥
-        shut q s = unlike k p s.is_read.as_read (sym q ∙ s.is_read.is)
+        shut : Passes (take n own) (Err z) → Stands own n → ⊥
+        shut q s = unlike z.number z.place s.is_read.as_read (sym q ∙ s.is_read.is)
 
-    module _ (e : g ≡ Open) where
+    module _ {u : Unit {0}} (e : g ≡ Ok u) where
       stands : Stands own n
       stands = record { inside = h; is_read = rw e at w.passes }
 

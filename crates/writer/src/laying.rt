@@ -6,14 +6,13 @@ ghost use Rattle.row_texts.specs.GoodRows.{good_rows};
 ghost use Rattle.writer.specs.Lays.{Lays, LaysAll};
 ghost use Rattle.written_answer.specs.Answer.{told};
 
-use admission::Gate;
 use admits::admit;
 use good_entries::{areas_good, symbols_good};
 use good_rows::pairs_good;
 use header::Form;
 use row_parts::part;
 use rows_out::put_all;
-use written_answer::Written;
+use written_answer::Refusal;
 
 // Whether all rows can be written.
 pub(crate) fn rows_good(
@@ -40,29 +39,29 @@ pub(crate) fn rows_good(
 }
 
 // The first n bytes laid over a buffer, if they are a text that the ended reading accepts and there is room.
-fn lay(own: &[u8], n: usize, out: &mut [u8]) -> Written
+fn lay(own: &[u8], n: usize, out: &mut [u8]) -> Result<usize, Refusal>
     ensures { Lays own.now n out.old (told result) out.new }
 {
     if own.len() < n {
-        return Written::Refusal {
+        return Err(Refusal {
             number: 15,
             place: 0,
-        };
+        });
     }
-    let Gate::Open = admit(part(own, 0, n)) else {
-        return Written::Refusal {
+    let Ok(()) = admit(part(own, 0, n)) else {
+        return Err(Refusal {
             number: 15,
             place: 0,
-        };
+        });
     };
     if out.len() < n {
-        return Written::Refusal {
+        return Err(Refusal {
             number: 16,
             place: 0,
-        };
+        });
     }
     cells::copy_bytes(out, 0, own, n);
-    Written::Bytes { count: n }
+    Ok(n)
 }
 
 // All of it, in a lent array.
@@ -79,7 +78,7 @@ pub(crate) fn write_with(
     content: &[u8],
     fragments: &[u32],
     out: &mut [u8],
-) -> Written
+) -> Result<usize, Refusal>
     ensures { LaysAll (form_of form) (lent text.now areas.now na symbols.now ns pairs.now np content.now fragments.now) own.old out.old (told result) out.new }
 {
     let n = put_all(

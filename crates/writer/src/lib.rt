@@ -7,7 +7,7 @@ ghost use Rattle.written_answer.specs.Answer.{told};
 ghost use Rattle.writer.specs.Writes.{Writes};
 
 use header::Form;
-use written_answer::Written;
+use written_answer::Refusal;
 
 mod laying;
 
@@ -24,16 +24,16 @@ pub fn write_module(
     content: &[u8],
     fragments: &[u32],
     out: &mut [u8],
-) -> Written
+) -> Result<usize, Refusal>
     ensures { Writes (form_of form) (lent text.now areas.now na symbols.now ns pairs.now np content.now fragments.now) out.old (told result) out.new }
 {
     if !laying::rows_good(
         form, text, areas, na, symbols, ns, pairs, np, content, fragments,
     ) {
-        return Written::Refusal {
+        return Err(Refusal {
             number: 15,
             place: 0,
-        };
+        });
     }
     let mut own = [0u8; 65536];
     laying::write_with(

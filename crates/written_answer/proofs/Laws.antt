@@ -10,6 +10,7 @@ use lib.ListN.{length}
 use lib.Dec.{eqb, leb}
 use borrow.Author.Rules.{rules}
 use borrow.Author.Tests.{eqb-false, eqb-true, le-leb, leb-true, lt-leb}
+use Rattle.std.specs.Prelude.{Option, None, Some, Result, Ok, Err}
 use Rattle.format.specs.Lists.{over, pick}
 use Rattle.format.specs.Header as the
 use Rattle.header.specs.Told.{form_of, more_of}
@@ -18,10 +19,7 @@ use Rattle.header.specs.declared.Width.{Width}
 use Rattle.header.specs.declared.Width.TheVariants.{Four, Three, Two}
 use Rattle.written_answer.specs.Answer.{answer_of, bytes, held_of, refusal, told}
 use Rattle.written_answer.specs.Numbers.{FormIs, form_for, formed, is_width, written_numbers, x_form}
-use Rattle.written_answer.specs.declared.Formed.{Formed}
-use Rattle.written_answer.specs.declared.Formed.TheVariants.{Is, No}
-use Rattle.written_answer.specs.declared.Written.{Written}
-use Rattle.written_answer.specs.declared.Written.TheVariants.{Bytes, Refusal}
+use Rattle.written_answer.specs.declared.Refusal.{Refusal}
 use Rattle.written_answer.specs.declared.WrittenNumbers.{WrittenNumbers}
 
 -- rows that are not given back are answered 15 whatever room there is, and the buffer stays
@@ -54,11 +52,11 @@ module _ (n : ℕ) (out : List ℕ) (h : n ≤ length out) where
   held_bytes w = rw (le-leb n (length out) h)
 
 -- `written_numbers`
-module _ {a : Written} {r : WrittenNumbers} where
-  pub written-refused : {n p : ℕ} → a ≡ Refusal n p → r ≡ record { refusal = n; bytes = 0 } → r ≡ written_numbers (told a)
+module _ {a : Result ℕ Refusal} {r : WrittenNumbers} where
+  pub written-refused : {s : Refusal} → a ≡ Err s → r ≡ record { refusal = s.number; bytes = 0 } → r ≡ written_numbers (told a)
   written-refused e f = rw e f
 
-  pub written-bytes : {n : ℕ} → a ≡ Bytes n → r ≡ record { refusal = 0; bytes = n } → r ≡ written_numbers (told a)
+  pub written-bytes : {n : ℕ} → a ≡ Ok n → r ≡ record { refusal = 0; bytes = n } → r ≡ written_numbers (told a)
   written-bytes e f = rw e f
 
 pub ruleset numbers = (rules, written-refused, written-bytes)
@@ -81,20 +79,20 @@ other n h i j = go (leb 2 n) (leb n 4) refl refl
     go true false e f = rw (e, f)
     go false u e f = rw e
 
-module _ (b : Bool) {n : ℕ} {r : Formed} where
-  pub form-2 : n ≡ 2 → r ≡ Is (x_form b Two) → FormIs b n r
+module _ (b : Bool) {n : ℕ} {f : Form} where
+  pub form-2 : n ≡ 2 → f ≡ x_form b Two → FormIs b n (Some f)
   unfolding is_width
-  form-2 e f = record { is = rw (e, f) }
+  form-2 e g = record { is = rw (e, g) }
 
-  pub form-3 : n ≡ 3 → r ≡ Is (x_form b Three) → FormIs b n r
+  pub form-3 : n ≡ 3 → f ≡ x_form b Three → FormIs b n (Some f)
   unfolding is_width
-  form-3 e f = record { is = rw (e, f) }
+  form-3 e g = record { is = rw (e, g) }
 
-  pub form-4 : n ≡ 4 → r ≡ Is (x_form b Four) → FormIs b n r
+  pub form-4 : n ≡ 4 → f ≡ x_form b Four → FormIs b n (Some f)
   unfolding is_width
-  form-4 e f = record { is = rw (e, f) }
+  form-4 e g = record { is = rw (e, g) }
 
-pub form-no : (b : Bool) {n : ℕ} → (n ≡ 2 → ⊥) → (n ≡ 3 → ⊥) → (n ≡ 4 → ⊥) → FormIs b n No
+pub form-no : (b : Bool) {n : ℕ} → (n ≡ 2 → ⊥) → (n ≡ 3 → ⊥) → (n ≡ 4 → ⊥) → FormIs b n None
 form-no b {n} h i j = record { is = sym (ap (λ (t : Bool). pick t (some (form_for b n)) none) (other n h i j)) }
 
 pub ruleset forming = (rules, form-2, form-3, form-4, form-no)
@@ -116,11 +114,11 @@ same-form f g e =
     let w : f.width ≡ g.width = same_width f.width g.width (omega (arith, ap (λ (x : the.Form). x.address_length) e)) in
     λ i. record { radix = ap (λ (x : the.Form). x.radix) e i; big = ap (λ (x : the.Form). x.big) e i; width = w i }
 
-told-once : (r s : Formed) → formed r ≡ formed s → r ≡ s
-told-once (Is f) (Is g) e = let k : form_of f ≡ form_of g = cc in ap Is (same-form f g k)
-told-once (Is f) No e = absurd (let z : ◌≡◌ {A = ℕ} 0 1 = cc in omega arith)
-told-once No (Is g) e = absurd (let z : ◌≡◌ {A = ℕ} 0 1 = cc in omega arith)
-told-once No No e = refl
+told-once : (r s : Option Form) → formed r ≡ formed s → r ≡ s
+told-once (Some f) (Some g) e = let k : form_of f ≡ form_of g = cc in ap Some (same-form f g k)
+told-once (Some f) None e = absurd (let z : ◌≡◌ {A = ℕ} 0 1 = cc in omega arith)
+told-once None (Some g) e = absurd (let z : ◌≡◌ {A = ℕ} 0 1 = cc in omega arith)
+told-once None None e = refl
 
-pub one_form : (b : Bool) (n : ℕ) (r s : Formed) → FormIs b n r → FormIs b n s → r ≡ s
+pub one_form : (b : Bool) (n : ℕ) (r s : Option Form) → FormIs b n r → FormIs b n s → r ≡ s
 one_form b n r s v w = told-once r s (v.is ∙ sym w.is)

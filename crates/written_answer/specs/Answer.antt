@@ -1,18 +1,17 @@
 -- What is answered to rows that are to be written, and what the lent buffer holds afterwards.
 -- Assumes nothing.
-use Rattle.std.specs.Prelude.{ℕ, Bool, false, true, List, length, leb}
+use Rattle.std.specs.Prelude.{ℕ, Bool, false, true, List, length, leb, Result, Ok, Err}
 use Rattle.format.specs.Lists.{over, pick}
-use Rattle.written_answer.specs.declared.Written.{Written}
-use Rattle.written_answer.specs.declared.Written.TheVariants.{Bytes, Refusal}
+use Rattle.written_answer.specs.declared.Refusal.{Refusal}
 
 -- a refusal with its number and place, or how many bytes were written
 pub data Answer : Type 0 where
   refusal : (number place : ℕ) → Answer
   bytes : (count : ℕ) → Answer
 
-abbrev pub told : Written → Answer
-told (Refusal n p) = refusal n p
-told (Bytes n) = bytes n
+abbrev pub told : Result ℕ Refusal → Answer
+told (Err r) = refusal r.number r.place
+told (Ok n) = bytes n
 
 -- 15 for rows that are not given back, then 16 for too little room, for a text of n bytes
 unfoldable pub answer_of : (gives : Bool) (n : ℕ) (out : List ℕ) → Answer

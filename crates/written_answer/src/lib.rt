@@ -4,15 +4,14 @@
 ghost use Rattle.std.specs.Prelude.{◌≡◌};
 ghost use Rattle.written_answer.specs.Answer.{told};
 ghost use Rattle.written_answer.specs.Numbers.{FormIs, written_numbers, x_form};
-ghost use Rattle.written_answer.specs.declared.Formed.TheVariants.{Is};
 
 use header::{Form, Width};
 
-// How many bytes were written, or a refusal with its number and place.
+// Why rows are not written, by its number, and the place.
 #[derive(Clone, Copy)]
-pub enum Written {
-    Refusal { number: u32, place: usize },
-    Bytes { count: usize },
+pub struct Refusal {
+    pub number: u32,
+    pub place: usize,
 }
 
 // 15 or 16; or 0 and how many bytes were written.
@@ -23,50 +22,41 @@ pub struct WrittenNumbers {
     pub bytes: usize,
 }
 
-// The numbers of an answer about a written text.
-pub fn written_numbers(answer: Written) -> WrittenNumbers
+// The numbers of an answer about a written text: how many bytes were written, or a refusal.
+pub fn written_numbers(answer: Result<usize, Refusal>) -> WrittenNumbers
     ensures { result ≡ written_numbers (told answer) }
 {
     match answer {
-        Written::Refusal { number, place: _ } => WrittenNumbers {
-            refusal: number,
+        Err(why) => WrittenNumbers {
+            refusal: why.number,
             bytes: 0,
         },
-        Written::Bytes { count } => WrittenNumbers {
+        Ok(count) => WrittenNumbers {
             refusal: 0,
             bytes: count,
         },
     }
 }
 
-// A form, or none.
-#[derive(Clone, Copy)]
-pub enum Formed {
-    Is { form: Form },
-    No,
-}
-
 // An X form.
-fn formed_as(big: bool, width: Width) -> Formed
-    ensures { result ≡ Is (x_form big width) }
+fn x_form(big: bool, width: Width) -> Form
+    ensures { result ≡ x_form big width }
 {
-    Formed::Is {
-        form: Form {
-            radix: 16,
-            big: big,
-            width: width,
-        },
+    Form {
+        radix: 16,
+        big,
+        width,
     }
 }
 
 // An X form with this order and so many bytes in an address, if they are 2, 3 or 4.
-pub fn form_for(big: bool, width: u32) -> Formed
+pub fn form_for(big: bool, width: u32) -> Option<Form>
     ensures { FormIs big width result }
 {
     match width {
-        2 => formed_as(big, Width::Two),
-        3 => formed_as(big, Width::Three),
-        4 => formed_as(big, Width::Four),
-        _ => Formed::No,
+        2 => Some(x_form(big, Width::Two)),
+        3 => Some(x_form(big, Width::Three)),
+        4 => Some(x_form(big, Width::Four)),
+        _ => None,
     }
 }

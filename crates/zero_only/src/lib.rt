@@ -5,20 +5,18 @@ ghost use Rattle.std.specs.Prelude.{◌≡◌};
 ghost use Rattle.numbers.specs.Told.{told};
 ghost use Rattle.zero_only.specs.Zero.{zero_only};
 
-use numbers::Num;
+use numbers::{Halt, Parsed, Reason};
 
 // What was read at a place, if it is 0; another number is a halt at that place, and a halt stays what it is.
-pub fn zero_only(i: Num, at: usize) -> Num
+pub fn zero_only(i: Parsed<u32>, at: usize) -> Parsed<u32>
     ensures { told result ≡ zero_only (told i) at }
 {
-    let Num::Is { value, next } = i else {
-        return i;
-    };
-    if value == 0 {
-        return Num::Is {
-            value: value,
-            next: next,
-        };
+    let n = i?;
+    if n.value == 0 {
+        return Ok(n);
     }
-    Num::No { reason: 4, at: at }
+    Err(Halt {
+        reason: Reason::Other,
+        at,
+    })
 }

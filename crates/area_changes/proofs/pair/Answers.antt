@@ -1,18 +1,6 @@
 use Rattle.area_changes.proofs.Pairs.{pair_is, pairs}
 use Rattle.area_changes.proofs.pair.Goals as goal
 
-pub positions-behind-requires : goal.positions-behind-requires
-positions-behind-requires c = search pairs
-
-pub fixups-middle-requires : goal.fixups-middle-requires
-fixups-middle-requires c = search pairs
-
-pub fixups-requires : goal.fixups-requires
-fixups-requires c = search pairs
-
-pub shape_of-list : goal.shape_of-list
-shape_of-list c = search pairs
-
 pub returns : goal.returns
 returns c =
     pair_is _ _ _ _ c.requires.0 c.requires.2 c.requires.1 c.requires.3 c.requires.6 c.requires.4 c.requires.5

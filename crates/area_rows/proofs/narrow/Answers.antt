@@ -1,9 +1,6 @@
 use Rattle.area_rows.proofs.Laws.{areas}
 use Rattle.area_rows.proofs.narrow.Goals as goal
 
-pub overflow_cast-result : goal.overflow_cast-result
-overflow_cast-result c = search areas
-
 pub returns-then-n-le4294967295 : goal.returns-then-n-le4294967295
 returns-then-n-le4294967295 c = search areas
 

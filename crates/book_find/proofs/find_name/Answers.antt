@@ -16,8 +16,8 @@ overflow_add-middle c = search finding
 pub name_at-requires : goal.name_at-requires
 name_at-requires c = search finding
 
-pub compare-way-requires : goal.compare-way-requires
-compare-way-requires c = search finding
+pub compare-requires : goal.compare-requires
+compare-requires c = search finding
 
 pub enum_told-1 : goal.enum_told-1
 enum_told-1 c = search finding
@@ -28,17 +28,17 @@ loop-low-smaller-in-Less c = search finding
 pub loop-low-preserved-in-Less : goal.loop-low-preserved-in-Less
 loop-low-preserved-in-Less c = search finding
 
-pub enum_told-in-Same : goal.enum_told-in-Same
-enum_told-in-Same c = search finding
+pub enum_told-in-Equal : goal.enum_told-in-Equal
+enum_told-in-Equal c = search finding
 
 pub row_at-row-requires : goal.row_at-row-requires
 row_at-row-requires c = search finding
 
-pub returns-in-Same : goal.returns-in-Same
-returns-in-Same c = search finding
+pub returns-in-Equal : goal.returns-in-Equal
+returns-in-Equal c = search finding
 
-pub enum_told-in-More : goal.enum_told-in-More
-enum_told-in-More c = search finding
+pub enum_told-in-Greater : goal.enum_told-in-Greater
+enum_told-in-Greater c = search finding
 
 pub overflow_add-low : goal.overflow_add-low
 overflow_add-low c = search finding

@@ -1,26 +1,11 @@
-use Rattle.book_read.proofs.Laws.{fetching}
+use borrow.Author.Rules.{rules}
+use Rattle.book_read.proofs.Laws.{fetching, fetch-refused, fetch-opened}
 use Rattle.book_read.proofs.fetch_pattern.Goals as goal
 
-pub open_book-opened-requires : goal.open_book-opened-requires
-open_book-opened-requires c = search fetching
+pub returns-in_err-open_book : goal.returns-in_err-open_book
+returns-in_err-open_book c =
+    let e = fetch-refused c.args.book.now c.args.name.now c.args.values.now c.args.masks.now c.open_book.ensures c.in_err-open_book.was in
+    search (rules, e)
 
-pub enum_known-opened : goal.enum_known-opened
-enum_known-opened c = search fetching
-
-pub enum_told-1 : goal.enum_told-1
-enum_told-1 c = search fetching
-
-pub copy_pattern-requires : goal.copy_pattern-requires
-copy_pattern-requires c = search fetching
-
-pub returns-in-Refused : goal.returns-in-Refused
-returns-in-Refused c = search fetching
-
-pub shape_of-values : goal.shape_of-values
-shape_of-values c = search fetching
-
-pub shape_of-masks : goal.shape_of-masks
-shape_of-masks c = search fetching
-
-pub returns-in-Book : goal.returns-in-Book
-returns-in-Book c = search fetching
+pub returns : goal.returns
+returns c = fetch-opened c.args.book.now c.args.name.now c.args.values.now c.args.masks.now c.open_book.ensures c.in_ok-open_book.was c.copy_pattern.ensures

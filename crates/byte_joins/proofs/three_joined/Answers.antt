@@ -10,11 +10,5 @@ returns-then-b-gt255 c = search joining
 pub returns-then-c-gt255 : goal.returns-then-c-gt255
 returns-then-c-gt255 c = search joining
 
-pub join_two-requires : goal.join_two-requires
-join_two-requires c = search joining
-
-pub join_third-requires : goal.join_third-requires
-join_third-requires c = search joining
-
 pub returns : goal.returns
 returns c = search joining

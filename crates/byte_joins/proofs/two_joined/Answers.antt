@@ -7,8 +7,5 @@ returns-then-x-gt255 c = search joining
 pub returns-then-y-gt255 : goal.returns-then-y-gt255
 returns-then-y-gt255 c = search joining
 
-pub join_two-requires : goal.join_two-requires
-join_two-requires c = search joining
-
 pub returns : goal.returns
 returns c = search joining

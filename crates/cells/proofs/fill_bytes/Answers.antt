@@ -1,29 +1,8 @@
-use Rattle.cells.proofs.Laws.{filling}
+use Rattle.cells.proofs.Laws.{fill_some, fill_none}
 use Rattle.cells.proofs.fill_bytes.Goals as goal
 
-pub room-k-requires : goal.room-k-requires
-room-k-requires c = search filling
+pub returns-then-k-gt0 : goal.returns-then-k-gt0
+returns-then-k-gt0 c = fill_some _ _ _ _ c.room-k.ensures _ c.if-k-gt0.true (c.fill.ensures.after (λ _ e. e))
 
-pub loop-i-init : goal.loop-i-init
-loop-i-init c = search filling
-
-pub overflow_add-dst : goal.overflow_add-dst
-overflow_add-dst c = search filling
-
-pub bounds-dst-at : goal.bounds-dst-at
-bounds-dst-at c = search filling
-
-pub overflow_add-i : goal.overflow_add-i
-overflow_add-i c = search filling
-
-pub loop-i-smaller : goal.loop-i-smaller
-loop-i-smaller c = search filling
-
-pub loop-i-preserved : goal.loop-i-preserved
-loop-i-preserved c = search filling
-
-pub shape_of-dst : goal.shape_of-dst
-shape_of-dst c = search filling
-
-pub returns : goal.returns
-returns c = search filling
+pub returns-else-k-gt0 : goal.returns-else-k-gt0
+returns-else-k-gt0 c = fill_none _ _ _ _ c.room-k.ensures c.if-k-gt0.false

@@ -10,12 +10,6 @@ row_at-requires c = search rules
 pub row_line-now-requires : goal.row_line-now-requires
 row_line-now-requires c = search rules
 
-pub overflow_add-i : goal.overflow_add-i
-overflow_add-i c = search rules
-
-pub loop-i-smaller : goal.loop-i-smaller
-loop-i-smaller c = search rules
-
 pub loop-i-preserved : goal.loop-i-preserved
 loop-i-preserved c = search rules
 

@@ -18,8 +18,9 @@ use Rattle.format.specs.Records.{step_of}
 use Rattle.laws.specs.Places.{entry_at, line_at, line_end}
 use Rattle.entry_line.specs.Told.{told_entry}
 use Rattle.entry_line.specs.declared.Entry as code
-use Rattle.entry_line.specs.declared.EntryLine.{EntryLine}
-use Rattle.entry_line.specs.declared.EntryLine.TheVariants.{Is, No}
+use Rattle.std.specs.Prelude.{Result, Ok, Err}
+use Rattle.numbers.specs.declared.Halt.{Halt}
+use Rattle.numbers.specs.declared.Read.{Read}
 use Rattle.text_lines.specs.Lines.{LineIs}
 use Rattle.text_lines.specs.declared.LineAt.{LineAt}
 use Rattle.counts.specs.Counts.{Two, tells, tells_at}
@@ -41,16 +42,16 @@ end-past f text p h = rw (no_bytes text p (line_end text p - p) h, no-entry f)
 pub end-in : (text : List ℕ) {p : ℕ} {l : LineAt} → LineIs text p l → p ≤ length text → l.end ≤ length text
 end-in text w h = omega (arith, w.width, w.inside h)
 
-entry-is : (f : Form) (text : List ℕ) (p : ℕ) {l : LineAt} → LineIs text p l → (y : EntryLine) → told_entry y ≡ entry_line f (take (l.end - p) (drop p text)) 0
+entry-is : (f : Form) (text : List ℕ) (p : ℕ) {l : LineAt} → LineIs text p l → (y : Result (Read code.Entry) Halt) → told_entry y ≡ entry_line f (take (l.end - p) (drop p text)) 0
     → entry_at true f text p ≡ step_of true p (l.end - p) l.ends l.next (told_entry y)
 unfolding entry_at
 entry-is f text p w y d = rw (← w.ends_at, ← w.line-end, ← w.behind, d)
 
-module _ (f : Form) (text : List ℕ) (p : ℕ) {l : LineAt} (w : LineIs text p l) {y : EntryLine} (d : told_entry y ≡ entry_line f (take (l.end - p) (drop p text)) 0) where
-  pub end-1 : {r x : ℕ} → y ≡ No r x → none ≡ end_after (entry_at true f text p)
+module _ (f : Form) (text : List ℕ) (p : ℕ) {l : LineAt} (w : LineIs text p l) {y : Result (Read code.Entry) Halt} (d : told_entry y ≡ entry_line f (take (l.end - p) (drop p text)) 0) where
+  pub end-1 : {h : Halt} → y ≡ Err h → none ≡ end_after (entry_at true f text p)
   end-1 g = sym (ap end_after (entry-is f text p w y d) ∙ rw g)
 
-  module _ {en : code.Entry} {u : ℕ} (g : y ≡ Is en u) {t : Bool} (h : t ≡ (eqb u (l.end - p) && leb 1 l.ends)) where
+  module _ {en : Read code.Entry} (g : y ≡ Ok en) {t : Bool} (h : t ≡ (eqb en.next (l.end - p) && leb 1 l.ends)) where
     pub end-2 : t ≡ false → none ≡ end_after (entry_at true f text p)
     end-2 i = sym (ap end_after (entry-is f text p w y d) ∙ rw (g, ← h, i))
 

@@ -4,7 +4,7 @@ use Prim.Native.Nat.{ℕ, ◌-◌, ◌<◌, ◌≤◌}
 use mathlib.Core.Path.{◌≡◌, refl, sym, ap, ◌∙◌}
 use mathlib.Core.Bool.{true}
 use mathlib.Core.List.{List, []}
-use mathlib.Core.Option.{Option, none, some}
+use mathlib.Core.Option.{none, some}
 use native.Mathlib.Omega.{arith}
 use lib.ListN.{length, drop_of_length-le}
 use borrow.Author.Rules.{rules}
@@ -16,14 +16,13 @@ use Rattle.format.specs.Records.{Step, Taken, goes, last, records, stops}
 use Rattle.laws.specs.Places.{end_at, entry_at, line_end, next_line, records_at}
 use Rattle.laws.proofs.Places.{records-at}
 use Rattle.cut.proofs.Steps.{entry-goes, entry-no-last}
-use Rattle.counts.specs.Counts.{Two, first_told, tells_at, told_from}
+use Rattle.counts.specs.Counts.{first_told, tells_at, told_from}
 use Rattle.counts.proofs.Counts.{Walking, walk_end, walk_more, walk_start, walk-told}
 use Rattle.h_line.specs.Told.{told_two, two_of}
 use Rattle.counts_of.specs.Told.{end_after, group_one_end, told_end}
-use Rattle.counts_of.specs.declared.End.{End}
-use Rattle.counts_of.specs.declared.End.TheVariants.{At, Stops}
+use Rattle.std.specs.Prelude.{Some, None}
+use Rattle.std.specs.Prelude as std
 use Rattle.h_line.specs.declared.Told.{Told}
-use Rattle.h_line.specs.declared.Told.TheVariants as told
 
 -- no records are left behind the text
 no-records : (f : Form) (text : List ℕ) (p : ℕ) → length text ≤ p → (records_at true f text p).entries ≡ []
@@ -41,17 +40,17 @@ went stops n h = let z : ◌≡◌ {A = ℕ} 0 1 = cc in let y : ⊥ = omega ari
 went (last t) n h = let z : ◌≡◌ {A = ℕ} 0 1 = cc in let y : ⊥ = omega arith in absurd y
 went (goes t) n h = record { taken = t; is-taken = refl; ends = cc }
 
-module _ (f : Form) (text : List ℕ) (p : ℕ) {r : End} (e : told_end r ≡ end_after (entry_at true f text p)) where
-  goes_on : {n : ℕ} → r ≡ At n → Went (entry_at true f text p) n
+module _ (f : Form) (text : List ℕ) (p : ℕ) {r : std.Option ℕ} (e : told_end r ≡ end_after (entry_at true f text p)) where
+  goes_on : {n : ℕ} → r ≡ Some n → Went (entry_at true f text p) n
   goes_on {n} g = went (entry_at true f text p) n (rw g at e)
 
-  goes_to : {n : ℕ} → r ≡ At n → (n ≡ next_line text p) × (1 ≤ end_at text p)
+  goes_to : {n : ℕ} → r ≡ Some n → (n ≡ next_line text p) × (1 ≤ end_at text p)
   goes_to g =
       let k = goes_on g in
       let m = entry-goes f text p k.taken k.is-taken in
       (k.ends ∙ m.1, m.2)
 
-  stops-here : r ≡ Stops → entry_at true f text p ≡ stops
+  stops-here : r ≡ None → entry_at true f text p ≡ stops
   stops-here g = go (entry_at true f text p) refl (rw g at e)
     where
       go : (s : Step Entry) → entry_at true f text p ≡ s → none ≡ end_after s → s ≡ stops
@@ -60,26 +59,26 @@ module _ (f : Form) (text : List ℕ) (p : ℕ) {r : End} (e : told_end r ≡ en
       go (goes t) m h = let z : ◌≡◌ {A = ℕ} 0 1 = cc in let y : ⊥ = omega arith in absurd y
 
   -- a line that is taken has bytes, so less is left behind it
-  further : {n : ℕ} → r ≡ At n → p < n
+  further : {n : ℕ} → r ≡ Some n → p < n
   unfolding next_line line_end past
   further g = let k = goes_to g in omega (arith, k.0, k.1)
 
-  pub less-left : {n : ℕ} → r ≡ At n → p < length text → length text - n < length text - p
+  pub less-left : {n : ℕ} → r ≡ Some n → p < length text → length text - n < length text - p
   less-left g h = omega (arith, further g)
 
   -- `first_told`
   module _ {p₀ : ℕ} (w : Walking f text p₀ p) where
-    pub told-stop : r ≡ Stops → none ≡ told_from f text p₀
+    pub told-stop : r ≡ None → none ≡ told_from f text p₀
     told-stop g = sym (walk_end f text w (stops-here g))
 
-    module _ {n : ℕ} (g : r ≡ At n) {d : Told} (i : told_two d ≡ tells_at f.radix text p) where
-      pub told-found : {a s : ℕ} → d ≡ told.Two a s → {x : Option Two} → x ≡ tells_at f.radix text p → x ≡ told_from f text p₀
-      told-found {a} {s} h j =
+    module _ {n : ℕ} (g : r ≡ Some n) {d : std.Option Told} (i : told_two d ≡ tells_at f.radix text p) where
+      pub told-found : {a : Told} → d ≡ Some a → some (two_of a.areas a.symbols) ≡ told_from f text p₀
+      told-found {a} h =
           let k = goes_on g in
-          let t : tells_at f.radix text p ≡ some (two_of a s) = sym i ∙ rw h in
-          j ∙ t ∙ sym (walk-told f text w k.taken k.is-taken (two_of a s) t)
+          let t : tells_at f.radix text p ≡ some (two_of a.areas a.symbols) = sym i ∙ rw h in
+          sym (walk-told f text w k.taken k.is-taken (two_of a.areas a.symbols) t)
 
-      pub told_more : d ≡ told.Nothing → Walking f text p₀ n
+      pub told_more : d ≡ None → Walking f text p₀ n
       told_more h =
           let k = goes_on g in
           let t : tells_at f.radix text p ≡ none = sym i ∙ rw h in
@@ -105,12 +104,12 @@ module _ (f : Form) (text : List ℕ) {p₀ p : ℕ} (w : Ends f text p₀ p) wh
   unfolding group_one_end
   ends-out h = sym (w.same ∙ rw (no-records f text p h))
 
-  module _ {r : End} (e : told_end r ≡ end_after (entry_at true f text p)) where
-    pub ends-stop : r ≡ Stops → p ≡ group_one_end f text p₀
+  module _ {r : std.Option ℕ} (e : told_end r ≡ end_after (entry_at true f text p)) where
+    pub ends-stop : r ≡ None → p ≡ group_one_end f text p₀
     unfolding group_one_end
     ends-stop g = sym (w.same ∙ rw (records-at true f text p, stops-here f text p e g))
 
-    pub ends_more : {n : ℕ} → r ≡ At n → Ends f text p₀ n
+    pub ends_more : {n : ℕ} → r ≡ Some n → Ends f text p₀ n
     ends_more g =
         let k = goes_on f text p e g in
         record { same = w.same ∙ one_more f text p k.taken k.is-taken ∙ ap (group_one_end f text) (sym (goes_to f text p e g).0) }

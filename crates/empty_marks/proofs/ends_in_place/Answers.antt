@@ -19,14 +19,11 @@ bounds-t-p c = search ending
 pub returns-then-t-p-ne10 : goal.returns-then-t-p-ne10
 returns-then-t-p-ne10 c = search ending
 
-pub overflow_add-p-2 : goal.overflow_add-p-2
-overflow_add-p-2 c = search ending
+pub overflow_add-result : goal.overflow_add-result
+overflow_add-result c = search ending
 
 pub bounds-t-p-2 : goal.bounds-t-p-2
 bounds-t-p-2 c = search ending
-
-pub returns-then-t-p-ne10-2 : goal.returns-then-t-p-ne10-2
-returns-then-t-p-ne10-2 c = search ending
 
 pub returns : goal.returns
 returns c = search ending

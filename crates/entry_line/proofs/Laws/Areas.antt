@@ -11,49 +11,47 @@ use Rattle.format.specs.Number.{past, blanks}
 use Rattle.format.specs.Header.{Form}
 use Rattle.format.specs.Entries.{Entry, area, spelled, size, flags, addr, A, titled, field, area_of, area_line}
 use Rattle.format.specs.Number as the
-use Rattle.numbers.specs.Told.{told}
-use Rattle.numbers.specs.declared.Num.{Num}
-use Rattle.numbers.specs.declared.Num.TheVariants.{Is, No}
-use Rattle.entry_parts.specs.Told.{told_name}
-use Rattle.entry_line.specs.Told.{name_of}
-use Rattle.fields.specs.Told.{halt}
-use Rattle.entry_parts.specs.declared.NameAt.{NameAt}
-use Rattle.entry_parts.specs.declared.NameAt.TheVariants.{Name, NoName}
+use Rattle.std.specs.Prelude.{Result, Ok, Err}
+use Rattle.numbers.specs.Told.{told, code}
+use Rattle.numbers.specs.declared.Halt.{Halt}
+use Rattle.numbers.specs.declared.Read.{Read}
+use Rattle.entry_parts.specs.Told.{told_name, name_of}
+use Rattle.entry_parts.specs.declared.Name.{Name}
 
 -- `addr_at`
-module _ (radix : ℕ) (s : List ℕ) (at : ℕ) {m : Num} (e : told m ≡ field (spelled addr) radix s at) where
-  pub addr-1 : {v n : ℕ} → m ≡ Is v n → is (some v) n ≡ optional (field (spelled addr) radix) s at
+module _ (radix : ℕ) (s : List ℕ) (at : ℕ) {m : Result (Read ℕ) Halt} (e : told m ≡ field (spelled addr) radix s at) where
+  pub addr-1 : {r : Read ℕ} → m ≡ Ok r → is (some r.value) r.next ≡ optional (field (spelled addr) radix) s at
   unfolding optional
   addr-1 g = rw (← e, g)
 
-  pub addr-2 : {r p : ℕ} → m ≡ No r p → is none at ≡ optional (field (spelled addr) radix) s at
+  pub addr-2 : {h : Halt} → m ≡ Err h → is none at ≡ optional (field (spelled addr) radix) s at
   unfolding optional
   addr-2 g = rw (← e, g)
 
 pub ruleset addrs = (rules, addr-1, addr-2)
 
 -- `area_of`
-module _ (f : Form) (n : the.Name) (s : List ℕ) (at : ℕ) {z : Num} (e : told z ≡ field (spelled size) f.radix s at) where
-  pub area-1 : {r p : ℕ} → z ≡ No r p → {x : Got Entry} → x ≡ halt (told z) → x ≡ area_of f n s at
+module _ (f : Form) (n : the.Name) (s : List ℕ) (at : ℕ) {z : Result (Read ℕ) Halt} (e : told z ≡ field (spelled size) f.radix s at) where
+  pub area-1 : {h : Halt} → z ≡ Err h → isnt (code h.reason) h.at ≡ area_of f n s at
   unfolding area_of
-  area-1 g i = rw (i, ← e, g)
+  area-1 g = rw (← e, g)
 
-  module _ {v a : ℕ} (g : z ≡ Is v a) {y : Num} (i : told y ≡ field (spelled flags) f.radix s a) where
-    pub area-2 : {r p : ℕ} → y ≡ No r p → {x : Got Entry} → x ≡ halt (told y) → x ≡ area_of f n s at
+  module _ {q : Read ℕ} (g : z ≡ Ok q) {y : Result (Read ℕ) Halt} (i : told y ≡ field (spelled flags) f.radix s q.next) where
+    pub area-2 : {h : Halt} → y ≡ Err h → isnt (code h.reason) h.at ≡ area_of f n s at
     unfolding area_of
-    area-2 j k = rw (k, ← e, g, ← i, j)
+    area-2 j = rw (← e, g, ← i, j)
 
-    pub area-3 : {w b : ℕ} → y ≡ Is w b → {o : Option ℕ} {c : ℕ} → is o c ≡ optional (field (spelled addr) f.radix) s b → {u : ℕ} → u ≡ past is_blank s c → is (area n v w o) u ≡ area_of f n s at
+    pub area-3 : {r : Read ℕ} → y ≡ Ok r → {o : Option ℕ} {c : ℕ} → is o c ≡ optional (field (spelled addr) f.radix) s r.next → {u : ℕ} → u ≡ past is_blank s c → is (area n q.value r.value o) u ≡ area_of f n s at
     unfolding area_of blanks
     area-3 j k l = rw (l, ← e, g, ← i, j, ← k)
 
 -- `parse_area`
-module _ (f : Form) (s : List ℕ) {t : NameAt} (e : told_name t ≡ titled (spelled A) s 0) where
-  pub area-line-1 : {r p : ℕ} → t ≡ NoName r p → isnt r p ≡ area_line f s 0
+module _ (f : Form) (s : List ℕ) {t : Result (Read Name) Halt} (e : told_name t ≡ titled (spelled A) s 0) where
+  pub area-line-1 : {h : Halt} → t ≡ Err h → isnt (code h.reason) h.at ≡ area_line f s 0
   unfolding area_line
   area-line-1 g = rw (← e, g)
 
-  pub area-line-2 : {a n b : ℕ} → t ≡ Name a n b → {x : Got Entry} → x ≡ area_of f (name_of a n) s b → x ≡ area_line f s 0
+  pub area-line-2 : {r : Read Name} → t ≡ Ok r → {x : Got Entry} → x ≡ area_of f (name_of r.value) s r.next → x ≡ area_line f s 0
   unfolding area_line
   area-line-2 g h = rw (← e, g) h
 

@@ -10,14 +10,15 @@ use borrow.Author.Rules.{rules}
 use borrow.Author.Tests.{eq-eqb, ne_eqb}
 use Rattle.format.specs.Got.{Got, is, isnt, then}
 use Rattle.format.specs.Header.{Form}
-use Rattle.format.specs.Entries.{Entry, ignored, A, area_line, symbol_line, letter_and_more, is_ignored, ignored_line, entry_line}
+use Rattle.format.specs.Entries.{Entry, ignored, area_line, symbol_line, letter_and_more, is_ignored, ignored_line, entry_line}
 use Rattle.entry_sort.specs.Sorts.{letter_of}
 use Rattle.entry_sort.specs.declared.Letter.{Letter}
 use Rattle.entry_sort.specs.declared.Letter.TheVariants.{Area, Symbol, Other}
 use Rattle.entry_sort.proofs.Laws.{is-area, is-symbol, is-other}
 use Rattle.fields.specs.Told.{went, one_of}
-use Rattle.fields.specs.declared.Place.{Place}
-use Rattle.fields.specs.declared.Place.TheVariants.{At, Not}
+use Rattle.std.specs.Prelude.{Result, Ok, Err}
+use Rattle.numbers.specs.Told.{code}
+use Rattle.numbers.specs.declared.Halt.{Halt}
 use Rattle.fields.proofs.Laws.Ignored.{letter-as}
 
 -- an O, H or M line
@@ -31,15 +32,15 @@ o-h-m b = go (eqb b 79) (eqb b 72) (eqb b 77)
     go false false true = refl
     go false false false = refl
 
-ignored-from : (s : List ℕ) (l : Place) → went l ≡ letter_and_more (one_of (79 ∷ 72 ∷ 77 ∷ [])) (tt {0}) s 0 → ignored_line s 0 ≡ then (went l) (λ x next. is ignored next)
+ignored-from : (s : List ℕ) (l : Result ℕ Halt) → went l ≡ letter_and_more (one_of (79 ∷ 72 ∷ 77 ∷ [])) (tt {0}) s 0 → ignored_line s 0 ≡ then (went l) (λ x next. is ignored next)
 unfolding ignored_line
 ignored-from s l e = letter-as (one_of (79 ∷ 72 ∷ 77 ∷ [])) is_ignored (tt {0}) ignored s (o-h-m (get_or s 0 0)) ∙ rw (← e)
 
-module _ (s : List ℕ) {l : Place} (e : went l ≡ letter_and_more (one_of (79 ∷ 72 ∷ 77 ∷ [])) (tt {0}) s 0) where
-  pub ignored-1 : {r p : ℕ} → l ≡ Not r p → isnt r p ≡ ignored_line s 0
+module _ (s : List ℕ) {l : Result ℕ Halt} (e : went l ≡ letter_and_more (one_of (79 ∷ 72 ∷ 77 ∷ [])) (tt {0}) s 0) where
+  pub ignored-1 : {h : Halt} → l ≡ Err h → isnt (code h.reason) h.at ≡ ignored_line s 0
   ignored-1 g = sym (ignored-from s l e ∙ rw g)
 
-  pub ignored-2 : {n : ℕ} → l ≡ At n → is ignored n ≡ ignored_line s 0
+  pub ignored-2 : {n : ℕ} → l ≡ Ok n → is ignored n ≡ ignored_line s 0
   ignored-2 g = sym (ignored-from s l e ∙ rw g)
 
 -- which reader a line goes to

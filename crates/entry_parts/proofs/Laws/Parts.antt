@@ -13,9 +13,10 @@ use Rattle.format.specs.Number.{past, name, number}
 use Rattle.format.specs.Entries.{lead, titled, field}
 use Rattle.format.specs.Number as the
 use Rattle.numbers.proofs.Laws.Numbers.{space-no, space-is}
+use Rattle.std.specs.Prelude.{Result, Ok, Err}
+use Rattle.numbers.specs.Told.{code}
+use Rattle.numbers.specs.declared.Halt.{Halt}
 use Rattle.fields.specs.Told.{went}
-use Rattle.fields.specs.declared.Place.{Place}
-use Rattle.fields.specs.declared.Place.TheVariants.{At, Not}
 
 -- `parse_symbol`
 pub past-from : (p : ℕ → Bool) (s : List ℕ) {at e : ℕ} → e ≡ past p s at → at ≤ e
@@ -32,12 +33,12 @@ module _ (s : List ℕ) (at : ℕ) {b : ℕ} (f : b ≡ past is_name_byte s at) 
   name-2 h = rw (← f, ne_eqb b at h)
 
 -- `title`
-module _ (w s : List ℕ) {l : Place} (e : went l ≡ lead w s 0) where
-  pub title-1 : {r p : ℕ} → l ≡ Not r p → isnt r p ≡ titled w s 0
+module _ (w s : List ℕ) {l : Result ℕ Halt} (e : went l ≡ lead w s 0) where
+  pub title-1 : {h : Halt} → l ≡ Err h → isnt (code h.reason) h.at ≡ titled w s 0
   unfolding titled
   title-1 g = rw (← e, g)
 
-  pub title-2 : {n : ℕ} → l ≡ At n → {x : Got the.Name} → x ≡ name s n → x ≡ titled w s 0
+  pub title-2 : {n : ℕ} → l ≡ Ok n → {x : Got the.Name} → x ≡ name s n → x ≡ titled w s 0
   unfolding titled
   title-2 g i = rw (← e, g) i
 
@@ -49,12 +50,12 @@ module _ (w : List ℕ) (radix : ℕ) (s : List ℕ) (at : ℕ) {a : ℕ} (e : a
   unfolding field
   field-1 h = rw (space-no s at e h)
 
-  module _ (h : a ≡ at → ⊥) {l : Place} (f : went l ≡ lead w s a) where
-    pub field-2 : {r p : ℕ} → l ≡ Not r p → isnt r p ≡ field w radix s at
+  module _ (h : a ≡ at → ⊥) {l : Result ℕ Halt} (f : went l ≡ lead w s a) where
+    pub field-2 : {h : Halt} → l ≡ Err h → isnt (code h.reason) h.at ≡ field w radix s at
     unfolding field
     field-2 g = rw (space-is s at e h, ← f, g)
 
-    pub field-3 : {n : ℕ} → l ≡ At n → {m : Got ℕ} → m ≡ number radix s n → m ≡ field w radix s at
+    pub field-3 : {n : ℕ} → l ≡ Ok n → {m : Got ℕ} → m ≡ number radix s n → m ≡ field w radix s at
     unfolding field
     field-3 g i = rw (space-is s at e h, ← f, g) i
 

@@ -15,7 +15,7 @@ use Rattle.format.specs.Entries.{spelled, flags, field}
 use Rattle.scan.proofs.Laws.Kinds.{one-space}
 use Rattle.scan.proofs.Laws.Words.{Words, word-start, word_more}
 use Rattle.fields.specs.Due.{Due}
-use Rattle.fields.specs.declared.Place.TheVariants.{At}
+use Rattle.std.specs.Prelude.{Ok}
 use Rattle.fields.proofs.Laws.Fields.{one-lead, due-here, due-before}
 use Rattle.entry_parts.specs.Usual.{Four, Worded}
 use Rattle.entry_parts.proofs.Laws.Parts.{field-3}
@@ -49,7 +49,7 @@ module _ (w s : List ℕ) (at : ℕ) where
       → {n : ℕ} → n ≡ q + 1 → (radix : ℕ) → field w radix s at ≡ number radix s n
   one_field {i} {q} o l m e b h f c {n} z radix =
       let k : at + 2 ≤ length s = omega (arith, o.place) in
-      rw z (sym (field-3 w radix s at (one-space s at k e b) (λ x. omega arith) {l = At (q + 1)} (sym (one-lead s q h f c o l m)) refl refl))
+      rw z (sym (field-3 w radix s at (one-space s at k e b) (λ x. omega arith) {l = Ok (q + 1)} (sym (one-lead s q h f c o l m)) refl refl))
 
 -- `usual_four`, `usual_flags`
 pub worded-none : (w s : List ℕ) (at next : ℕ) → Worded w s at next false

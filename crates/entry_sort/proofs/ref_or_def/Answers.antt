@@ -1,14 +1,8 @@
 use Rattle.entry_sort.proofs.Laws.{refs}
 use Rattle.entry_sort.proofs.ref_or_def.Goals as goal
 
-pub past_word-a-requires : goal.past_word-a-requires
-past_word-a-requires c = search refs
-
 pub returns-then-a-at : goal.returns-then-a-at
 returns-then-a-at c = search refs
-
-pub past_word-b-requires : goal.past_word-b-requires
-past_word-b-requires c = search refs
 
 pub returns-then-b-at : goal.returns-then-b-at
 returns-then-b-at c = search refs

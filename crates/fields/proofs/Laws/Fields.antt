@@ -48,16 +48,6 @@ pub one-lead : (s : List ℕ) (at : ℕ) → at + 2 ≤ length s → get_or s at
     → {w : List ℕ} {from i : ℕ} → Words w s from i at → length w ≤ i → 0 < i → lead w s from ≡ is tt (at + 1)
 one-lead s at h e k {w} {from} o l m = sym (lead-3 w s from (word_end o l) (λ q. omega (arith, o.place)) (one-space s at h e k) (λ q. omega arith))
 
--- `same_so_far`
-module _ (b d : ℕ) (before : Bool) where
-  pub due-no : (b ≡ d → ⊥) → Due b d before false
-  due-no h = record { answer = rw (ne_eqb b d h) }
-
-  pub due-is : b ≡ d → Due b d before before
-  due-is h = record { answer = rw (eq-eqb b d h) }
-
-pub ruleset dues = (rules, due-no, due-is)
-
 -- where the answer is yes, the byte is the one that is due, and it was yes before
 module _ {b d : ℕ} {before r : Bool} (w : Due b d before r) (z : r ≡ true) where
   both : (t : Bool) → eqb b d ≡ t → (t && before) ≡ true → (b ≡ d) × (before ≡ true)

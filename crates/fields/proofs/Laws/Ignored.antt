@@ -1,43 +1,29 @@
 -- Lines that are ignored.
 -- Assumes nothing.
-use Prim.Native.Nat.{ℕ, ◌+◌, ◌<◌, ◌≤◌}
-use mathlib.Core.Path.{◌≡◌, refl, sym, ◌∙◌}
+use Prim.Native.Nat.{ℕ, ◌<◌, ◌≤◌}
+use mathlib.Core.Path.{◌≡◌, refl}
 use mathlib.Core.Bool.{Bool, true, false, not}
-use mathlib.Core.List.{List}
-use lib.ListN.{length, get_or, drop, drop_of_length-le}
-use lib.Dec.{leb}
+use mathlib.Core.List.{List, [], ◌∷◌}
+use lib.ListN.{length, get_or}
+use lib.Dec.{leb, eqb}
 use borrow.Author.Rules.{rules}
-use borrow.Author.Tests.{le-leb, lt-leb, eq-eqb, ne_eqb}
+use borrow.Author.Tests.{le-leb, lt-leb}
 use Rattle.format.specs.Lists.{pick}
 use Rattle.format.specs.Got.{is, isnt, then}
 use Rattle.format.specs.Entries.{letter_and_more}
 use Rattle.scan.proofs.Laws.Tests.{was-no, was-yes}
-use native.Mathlib.Numerals.{add-one}
-use lib.Seq.{drop-cons}
+use Rattle.std.specs.List.{list_any}
+use Rattle.std.proofs.lemmas.Bool.Decides.{nat_tests}
+use native.Mathlib.Omega.{arith}
 use Rattle.fields.specs.Told.{one_of}
 
--- `one_of`: the letters from i on
-pub record Among (cs : List ℕ) (b i : ℕ) : Type 0 where
-  pub rest : one_of cs b ≡ one_of (drop i cs) b
-
-pub among-start : (cs : List ℕ) (b : ℕ) → Among cs b 0
-among-start cs b = record { rest = refl }
-
-module _ {cs : List ℕ} {b i : ℕ} (w : Among cs b i) where
-  pub among-end : length cs ≤ i → false ≡ one_of cs b
-  unfolding one_of
-  among-end h = sym (w.rest ∙ rw (drop_of_length-le cs h))
-
-  module _ (h : i < length cs) where
-    pub among-is : b ≡ get_or cs i 0 → true ≡ one_of cs b
-    unfolding one_of
-    among-is e = sym (w.rest ∙ rw (drop-cons cs i 0 h, eq-eqb _ _ e))
-
-    pub among-more : (b ≡ get_or cs i 0 → ⊥) → Among cs b (i + 1)
-    unfolding one_of
-    among-more e = record { rest = w.rest ∙ rw (drop-cons cs i 0 h, ne_eqb _ _ e, add-one) }
-
-pub ruleset among = (rules, among-start, among-end, among-is, among-more)
+-- `one_of`
+pub any-one : (cs : List ℕ) (b : ℕ) → list_any (λ c. eqb c b) cs ≡ one_of cs b
+unfolding one_of
+any-one [] b = refl
+any-one (c ∷ cs) b =
+    let turned : eqb c b ≡ eqb b c = grind (arith, nat_tests) in
+    rw (turned, any-one cs b)
 
 -- `ignore_line`
 module _ (cs s : List ℕ) {b : ℕ} (e : b ≡ get_or s 0 0) {x : Bool} (h : x ≡ one_of cs b) where

@@ -1,14 +1,8 @@
 use Rattle.fields.proofs.Laws.Fields.{leads}
 use Rattle.fields.proofs.lead_at.Goals as goal
 
-pub past_word-a-requires : goal.past_word-a-requires
-past_word-a-requires c = search leads
-
 pub returns-then-a-at : goal.returns-then-a-at
 returns-then-a-at c = search leads
-
-pub past_kind-b-requires : goal.past_kind-b-requires
-past_kind-b-requires c = search leads
 
 pub returns-then-b-a : goal.returns-then-b-a
 returns-then-b-a c = search leads

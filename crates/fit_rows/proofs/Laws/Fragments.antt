@@ -9,84 +9,16 @@ use native.Mathlib.Nat.{add-zero}
 use native.Mathlib.Numerals.{add-one}
 use mir.Val.{Fits}
 use mir.Syntax.{w32}
-use lib.Dec.{leb}
 use lib.ListN.{get_or}
 use borrow.Author.Rules.{rules}
-use borrow.Author.Tests.{le-leb, lt-leb}
 use Rattle.format.specs.Mode.{Class, Addr19, Addr11, Addr24, Addr16, Byte, Other, bit, class_of, touched, touched_of}
 use Rattle.laws.specs.Rows.{from, fragment}
 use Rattle.mode.specs.Class.{told_class}
 use Rattle.mode.specs.declared.class.JumpType.{JumpType}
-use Rattle.mode.specs.declared.class.JumpType.TheVariants as jump
 use Rattle.record_parts.specs.Parts.{fragment_from}
-use Rattle.laid.specs.Fit.{whole, clear, fit_fragment, beside, beside_all, fit_fragments}
+use Rattle.laid.specs.Fit.{fit_fragment, beside, beside_all, fit_fragments}
 use Rattle.fit_rows.specs.Fits.{form_by, body_at, bodies_from}
 use Rattle.fit_rows.proofs.Laws.Tests.{is_false, is_true}
-
--- ------------------------------------------------------------------ `is_whole`, `is_clear`, `fits_fragment`
-
-module _ (m : ℕ) {j : JumpType} (e : told_class j ≡ class_of m) where
-  pub whole-24 : j ≡ jump.Addr24 → true ≡ whole (class_of m)
-  whole-24 h = rw (← e, h)
-
-  pub whole-19 : j ≡ jump.Addr19 → false ≡ whole (class_of m)
-  whole-19 h = rw (← e, h)
-
-  pub whole-16 : j ≡ jump.Addr16 → true ≡ whole (class_of m)
-  whole-16 h = rw (← e, h)
-
-  pub whole-11 : j ≡ jump.Addr11 → false ≡ whole (class_of m)
-  whole-11 h = rw (← e, h)
-
-  pub whole-byte : j ≡ jump.Byte → false ≡ whole (class_of m)
-  whole-byte h = rw (← e, h)
-
-  pub whole-other : j ≡ jump.Other → false ≡ whole (class_of m)
-  whole-other h = rw (← e, h)
-
-pub ruleset classing = (rules, whole-24, whole-19, whole-16, whole-11, whole-byte, whole-other)
-
-module _ (m : ℕ) {a : Bool} (ea : a ≡ bit 2 m) where
-  pub clear-2 : a ≡ true → false ≡ clear m
-  unfolding clear
-  clear-2 h = rw (← ea, h)
-
-  module _ (fa : a ≡ false) {b : Bool} (eb : b ≡ bit 5 m) where
-    pub clear-5 : b ≡ true → false ≡ clear m
-    unfolding clear
-    clear-5 h = rw (← ea, fa, ← eb, h)
-
-    module _ (fb : b ≡ false) {c : Bool} (ec : c ≡ bit 6 m) where
-      pub clear-6 : c ≡ true → false ≡ clear m
-      unfolding clear
-      clear-6 h = rw (← ea, fa, ← eb, fb, ← ec, h)
-
-      module _ (fc : c ≡ false) {d : Bool} (ed : d ≡ bit 9 m) where
-        pub clear-9 : d ≡ true → false ≡ clear m
-        unfolding clear
-        clear-9 h = rw (← ea, fa, ← eb, fb, ← ec, fc, ← ed, h)
-
-        pub clear-10 : d ≡ false → {g : Bool} → g ≡ bit 10 m → not g ≡ clear m
-        unfolding clear
-        clear-10 fd eg = rw (← ea, fa, ← eb, fb, ← ec, fc, ← ed, fd, ← eg)
-
-pub ruleset clearing = (rules, clear-2, clear-5, clear-6, clear-9, clear-10)
-
-module _ (mode entry width : ℕ) {w : Bool} (ew : w ≡ whole (class_of mode)) where
-  pub fragment-whole : not w ≡ true → (index : ℕ) → false ≡ fit_fragment (form_by width) (fragment mode entry index)
-  unfolding fit_fragment
-  fragment-whole h index = rw (← ew, is_false w h)
-
-  module _ (hw : not w ≡ false) {c : Bool} (ec : c ≡ clear mode) where
-    pub fragment-clear : not c ≡ true → (index : ℕ) → false ≡ fit_fragment (form_by width) (fragment mode entry index)
-    unfolding fit_fragment
-    fragment-clear h index = rw (← ew, is_true w hw, ← ec, is_false c h)
-
-    pub fragment-behind : not c ≡ false → (index : ℕ) → leb width entry ≡ fit_fragment (form_by width) (fragment mode entry index)
-    unfolding fit_fragment
-    fragment-behind h index = rw (← ew, is_true w hw, ← ec, is_true c h)
-
-pub ruleset fragmenting = (rules, fragment-whole, fragment-clear, fragment-behind)
 
 -- ------------------------------------------------------------------ `touches`
 
@@ -108,19 +40,6 @@ module _ (mode : ℕ) (j : JumpType) (ej : told_class j ≡ class_of mode) {b : 
   touched-is = et ∙ rw (ej, eb)
 
 pub ruleset touching = (rules, touched-fits, touched-is)
-
--- ------------------------------------------------------------------ `is_beside`
-
-module _ (m e n f : ℕ) {a t u : ℕ} (ea : a ≡ e) (et : t ≡ touched m) (eu : u ≡ t) {o : ℕ} (eo : o ≡ f) where
-  pub beside_first : a + u ≤ o → (x y : ℕ) → true ≡ beside (fragment m e x) (fragment n f y)
-  unfolding beside
-  beside_first l x y = rw (le-leb (e + touched m) f (omega arith))
-
-  pub beside-second : o < a + u → {o' v w a' : ℕ} → o' ≡ f → v ≡ touched n → w ≡ v → a' ≡ e → (x y : ℕ) → leb (o' + w) a' ≡ beside (fragment m e x) (fragment n f y)
-  unfolding beside
-  beside-second l eo' ev ew ea' x y = rw (lt-leb (e + touched m) f (omega arith), eo', ew, ev, ea')
-
-pub ruleset besides = (rules, beside_first, beside-second)
 
 -- ------------------------------------------------------------------ `beside_all`
 

@@ -1,4 +1,4 @@
--- The conditions on pairs: spans that meet, and pairs apart.
+-- The condition that pairs are apart.
 -- Assumes nothing.
 use Prim.Native.Nat.{ℕ, suc, ◌+◌, ◌-◌, ◌*◌, ◌≤◌, ◌<◌}
 use mathlib.Core.Path.{◌≡◌, ap, sym, ◌∙◌}
@@ -7,45 +7,10 @@ use mathlib.Core.List.{List}
 use native.Mathlib.Omega.{arith}
 use native.Mathlib.Nat.{add-zero}
 use native.Mathlib.Numerals.{add-one}
-use lib.Dec.{ltb}
 use lib.ListN.{get_or}
 use borrow.Author.Rules.{rules}
-use borrow.Author.Tests.{lt-ltb, le-ltb, eq-eqb, ne_eqb}
-use Rattle.homes.specs.declared.Home.{Home}
-use Rattle.homes.specs.Home.{home_at}
 use Rattle.fit_rows.specs.Fits.{meets, clear_from, end_at, apart_at, apart_from}
 use Rattle.fit_rows.proofs.Laws.Tests.{is_false, is_true}
-
--- ------------------------------------------------------------------ `meets`
-
-module _ (pairs : List ℕ) (area s e j : ℕ) {x : ℕ} (ex : x ≡ get_or pairs (7 * j + 2) 0) where
-  pub meets-other : (x ≡ area → ⊥) → false ≡ meets pairs area s e j
-  unfolding meets
-  meets-other n = rw (← ex, ne_eqb x area n)
-
-  module _ (same : x ≡ area) where
-    pub meets-empty : e ≤ s → false ≡ meets pairs area s e j
-    unfolding meets
-    meets-empty l = rw (← ex, eq-eqb x area same, le-ltb s e l)
-
-    module _ (l : s < e) {b b' d d' f : ℕ} (eb : b ≡ get_or pairs (7 * j + 1) 0) (eb' : b' ≡ b) (ed : d ≡ get_or pairs (7 * j + 4) 0) (ed' : d' ≡ d) (ef : f ≡ b' + d') where
-      pub meets-before : f ≤ s → false ≡ meets pairs area s e j
-      unfolding meets
-      meets-before k = rw (← ex, eq-eqb x area same, lt-ltb s e l, le-ltb s (get_or pairs (7 * j + 1) 0 + get_or pairs (7 * j + 4) 0) (omega arith))
-
-      module _ (k : s < f) where
-        pub meets-behind : e ≤ b' → false ≡ meets pairs area s e j
-        unfolding meets
-        meets-behind m = rw (← ex, eq-eqb x area same, lt-ltb s e l, lt-ltb s (get_or pairs (7 * j + 1) 0 + get_or pairs (7 * j + 4) 0) (omega arith), le-ltb (get_or pairs (7 * j + 1) 0) e (omega arith))
-
-        pub meets-last : b' < e → ltb b' f ≡ meets pairs area s e j
-        unfolding meets
-        meets-last m =
-            let y : f ≡ get_or pairs (7 * j + 1) 0 + get_or pairs (7 * j + 4) 0 = omega arith in
-            let z : b' ≡ get_or pairs (7 * j + 1) 0 = omega arith in
-            rw (← ex, eq-eqb x area same, lt-ltb s e l, lt-ltb s (get_or pairs (7 * j + 1) 0 + get_or pairs (7 * j + 4) 0) (omega arith), lt-ltb (get_or pairs (7 * j + 1) 0) e (omega arith)) (ap (λ (q : ℕ). ltb q f) z ∙ ap (λ (q : ℕ). ltb (get_or pairs (7 * j + 1) 0) q) y)
-
-pub ruleset meeting = (rules, meets-other, meets-empty, meets-before, meets-behind, meets-last)
 
 -- ------------------------------------------------------------------ `is_clear_of`
 
@@ -76,23 +41,6 @@ module _ {pairs : List ℕ} {area s e k n i : ℕ} (g : Clearing pairs area s e 
     clearing-more d = record { within = omega arith; rest = one-row ∙ rw d }
 
 pub ruleset clear-rows = (rules, clearing-start, clearing-end, clearing-not, clearing-more)
-
--- ------------------------------------------------------------------ `end_at`
-
-module _ (areas : List ℕ) (na : ℕ) (pairs : List ℕ) (k : ℕ) {x x' : ℕ} (ex : x ≡ get_or pairs (7 * k + 2) 0) (ex' : x' ≡ x) {h : Home} (eh : h ≡ home_at areas na x')
-    {b b' d d' f : ℕ} (eb : b ≡ get_or pairs (7 * k + 1) 0) (eb' : b' ≡ b) (ed : d ≡ get_or pairs (7 * k + 4) 0) (ed' : d' ≡ d) (ef : f ≡ b' + d') {z : ℕ} (ez : z ≡ h.size) where
-  size_is : (home_at areas na (get_or pairs (7 * k + 2) 0)).size ≡ z
-  size_is = sym (ez ∙ (ap (λ (y : Home). y.size) eh ∙ ap (λ (y : ℕ). (home_at areas na y).size) (ex' ∙ ex)))
-
-  pub end-in : f ≤ z → f ≡ end_at areas na pairs k
-  unfolding end_at
-  end-in l = rw size_is (omega arith)
-
-  pub end-clipped : z < f → z ≡ end_at areas na pairs k
-  unfolding end_at
-  end-clipped l = rw size_is (omega arith)
-
-pub ruleset ending = (rules, end-in, end-clipped)
 
 -- ------------------------------------------------------------------ `is_apart`, `are_apart`
 

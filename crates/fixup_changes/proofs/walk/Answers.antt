@@ -7,12 +7,6 @@ loop-i-init c = search walks
 pub fixup-turn-requires : goal.fixup-turn-requires
 fixup-turn-requires c = search walks
 
-pub overflow_add-i : goal.overflow_add-i
-overflow_add-i c = search walks
-
-pub loop-i-smaller : goal.loop-i-smaller
-loop-i-smaller c = search walks
-
 pub loop-i-preserved : goal.loop-i-preserved
 loop-i-preserved c = search walks
 

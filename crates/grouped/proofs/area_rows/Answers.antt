@@ -7,17 +7,8 @@ loop-i-init c = search grouping
 pub row_to-q-requires : goal.row_to-q-requires
 row_to-q-requires c = search grouping
 
-pub overflow_add-i : goal.overflow_add-i
-overflow_add-i c = search grouping
-
-pub loop-i-smaller : goal.loop-i-smaller
-loop-i-smaller c = search grouping
-
 pub loop-i-preserved : goal.loop-i-preserved
 loop-i-preserved c = search grouping
-
-pub shape_of-out : goal.shape_of-out
-shape_of-out c = search grouping
 
 pub returns : goal.returns
 returns c = search grouping

@@ -7,17 +7,8 @@ loop-id-init c = search ordering
 pub area_rows-p-requires : goal.area_rows-p-requires
 area_rows-p-requires c = search ordering
 
-pub overflow_add-id : goal.overflow_add-id
-overflow_add-id c = search ordering
-
-pub loop-id-smaller : goal.loop-id-smaller
-loop-id-smaller c = search ordering
-
 pub loop-id-preserved : goal.loop-id-preserved
 loop-id-preserved c = search ordering
-
-pub shape_of-out : goal.shape_of-out
-shape_of-out c = search ordering
 
 pub returns : goal.returns
 returns c = search ordering

@@ -1,44 +1,17 @@
-use Rattle.h_line.proofs.Laws.{twos}
+use Rattle.h_line.proofs.Laws.{two-1, two-2, two-3, two-4, two-5}
 use Rattle.h_line.proofs.two_numbers.Goals as goal
 
-pub parse_number-n-requires : goal.parse_number-n-requires
-parse_number-n-requires c = search twos
-
-pub enum_known-n : goal.enum_known-n
-enum_known-n c = search twos
-
-pub enum_told-1 : goal.enum_told-1
-enum_told-1 c = search twos
-
 pub returns-in_default : goal.returns-in_default
-returns-in_default c = search twos
+returns-in_default c = two-1 _ _ _ c.parse_number.ensures c.in_default.is
 
-pub field_at-m-requires : goal.field_at-m-requires
-field_at-m-requires c = search twos
+pub returns-in_default-field_at : goal.returns-in_default-field_at
+returns-in_default-field_at c = two-2 _ _ _ c.parse_number.ensures c.in-Ok.is c.field_at.ensures c.in_default-field_at.is
 
-pub enum_known-m : goal.enum_known-m
-enum_known-m c = search twos
+pub returns-in_default-symbol_words : goal.returns-in_default-symbol_words
+returns-in_default-symbol_words c = two-3 _ _ _ c.parse_number.ensures c.in-Ok.is c.field_at.ensures c.in-Ok-field_at.is c.symbol_words.ensures c.in_default-symbol_words.is
 
-pub enum_told-in_default-m : goal.enum_told-in_default-m
-enum_told-in_default-m c = search twos
-
-pub returns-in_default-m : goal.returns-in_default-m
-returns-in_default-m c = search twos
-
-pub symbol_words-w-requires : goal.symbol_words-w-requires
-symbol_words-w-requires c = search twos
-
-pub enum_known-w : goal.enum_known-w
-enum_known-w c = search twos
-
-pub enum_told-in_default-w : goal.enum_told-in_default-w
-enum_told-in_default-w c = search twos
-
-pub returns-in_default-w : goal.returns-in_default-w
-returns-in_default-w c = search twos
-
-pub returns-then-next-t : goal.returns-then-next-t
-returns-then-next-t c = search twos
+pub returns-then-end-t : goal.returns-then-end-t
+returns-then-end-t c = two-4 _ _ _ c.parse_number.ensures c.in-Ok.is c.field_at.ensures c.in-Ok-field_at.is c.symbol_words.ensures c.in-Ok-symbol_words.is c.if-end-t.true
 
 pub returns : goal.returns
-returns c = search twos
+returns c = two-5 _ _ _ c.parse_number.ensures c.in-Ok.is c.field_at.ensures c.in-Ok-field_at.is c.symbol_words.ensures c.in-Ok-symbol_words.is c.if-end-t.false

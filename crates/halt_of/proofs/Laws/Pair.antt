@@ -17,8 +17,10 @@ use Rattle.format.specs.Header.{Form}
 use Rattle.format.specs.Pairs.{content_line, whole_content}
 use Rattle.format.specs.Pairs as the
 use Rattle.pair_line.specs.Pairs.{Contents, Sized, counted}
-use Rattle.pair_line.specs.declared.ContentLine.{ContentLine}
-use Rattle.pair_line.specs.declared.ContentLine.TheVariants.{Content, NoContent}
+use Rattle.std.specs.Prelude.{Result, Ok, Err}
+use Rattle.numbers.specs.Told as numbers
+use Rattle.numbers.specs.declared.Halt as reader
+use Rattle.pair_line.specs.declared.content.Content.{Content}
 use Rattle.halt.specs.Halt.{Halt, fragment_due, pair_halt, why}
 use Rattle.halt.proofs.Spans.{Span}
 use Rattle.halt.proofs.LineSpans.{fragment-due-sound}
@@ -40,16 +42,16 @@ shift : (n : ℕ) (g : Got the.Fragment) → why (shifted n (λ (x : the.Fragmen
 shift n (is a u) = refl
 shift n (isnt r p) = refl
 
-module _ (f : Form) (t r : List ℕ) (n : ℕ) {y : ContentLine} {room left : List ℕ} (e : Contents (whole_content f t) (content_line f t 0) room y left) where
-  pub pair-1 : {x p : ℕ} → y ≡ NoContent x p → halt x p ≡ pair_halt f (line_with t n) (line_with r 0)
+module _ (f : Form) (t r : List ℕ) (n : ℕ) {y : Result Content reader.Halt} {room left : List ℕ} (e : Contents (whole_content f t) (content_line f t 0) room y left) where
+  pub pair-1 : {k : reader.Halt} → y ≡ Err k → {x : ℕ} → x ≡ numbers.code k.reason → halt x k.at ≡ pair_halt f (line_with t n) (line_with r 0)
   unfolding pair_halt
-  pair-1 {x} {p} g = rw (halts (whole_content f t) x p (rw g at (sym e.answered)))
+  pair-1 {k} g i = rw (i, halts (whole_content f t) (numbers.code k.reason) k.at (rw g at (sym e.answered)))
 
-  module _ {a k u : ℕ} (g : y ≡ Content a k u) where
-    whole : (next : ℕ → Got the.Fragment) → then (whole_content f t) (λ c used. next used) ≡ next u
-    whole next = reads (whole_content f t) _ u (rw g at (sym e.answered)) next
+  module _ {k : Content} (g : y ≡ Ok k) where
+    whole : (next : ℕ → Got the.Fragment) → then (whole_content f t) (λ c used. next used) ≡ next k.used
+    whole next = reads (whole_content f t) _ k.used (rw g at (sym e.answered)) next
 
-    pub pair-2 : n ≡ 0 → halt 4 u ≡ pair_halt f (line_with t n) (line_with r 0)
+    pub pair-2 : n ≡ 0 → halt 4 k.used ≡ pair_halt f (line_with t n) (line_with r 0)
     unfolding pair_halt
     pair-2 z =
         sym (ap (λ (x : Got the.Fragment). why x) (whole (λ used. pick (eqb n 0) (isnt 4 used) (shifted (width (line_with t n)) (λ (x : the.Fragment). x) (fragment_due f r 0))))

@@ -2,18 +2,18 @@ use Rattle.scan.proofs.Laws.Tests.{tests}
 use Rattle.format.specs.Header.{radix_of}
 use Rattle.header.proofs.radix_of.Goals as goal
 
-pub returns-then-b-eq88 : goal.returns-then-b-eq88
+pub returns-in-88 : goal.returns-in-88
 unfolding radix_of
-returns-then-b-eq88 c = search tests
+returns-in-88 c = search tests
 
-pub returns-then-b-eq68 : goal.returns-then-b-eq68
+pub returns-in-68 : goal.returns-in-68
 unfolding radix_of
-returns-then-b-eq68 c = search tests
+returns-in-68 c = search tests
 
-pub returns-then-b-eq81 : goal.returns-then-b-eq81
+pub returns-in-81 : goal.returns-in-81
 unfolding radix_of
-returns-then-b-eq81 c = search tests
+returns-in-81 c = search tests
 
-pub returns : goal.returns
+pub returns-in_default : goal.returns-in_default
 unfolding radix_of
-returns c = search tests
+returns-in_default c = search tests

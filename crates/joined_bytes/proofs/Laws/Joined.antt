@@ -1,7 +1,7 @@
 -- Bytes joined into one number.
 -- Assumes nothing.
 use Prim.Native.Nat.{ℕ, suc, ◌%◌, ◌+◌, ◌*◌, ◌-◌, ◌<◌, ◌≤◌, ◌^◌}
-use mathlib.Core.Path.{◌≡◌, refl, ap, sym, ◌∙◌}
+use mathlib.Core.Path.{◌≡◌, refl, ap, sym, subst, ◌∙◌}
 use mathlib.Core.Bool.{Bool, true, false}
 use mathlib.Core.List.{List, [], ◌∷◌}
 use native.Mathlib.Omega.{arith}
@@ -11,13 +11,14 @@ use lib.Dec.{lit<, lit≤}
 use borrow.Author.Rules.{rules}
 use mir.Val.{Fits}
 use mir.Syntax.{w32, w64}
+use Rattle.std.specs.Prelude.{Result, Ok, Err}
 use Rattle.format.specs.Number.{horner, byte, next_byte, more_bytes, bytes as bytes_of, little, join, joined}
 use Rattle.format.specs.Got.{Got, is, isnt, then}
 use Rattle.format.specs.Pairs.{index}
 use Rattle.numbers.specs.Told.{told}
 use Rattle.joined_bytes.specs.Steps.{join_on, join_step}
-use Rattle.numbers.specs.declared.Num.{Num}
-use Rattle.numbers.specs.declared.Num.TheVariants.{Is, No}
+use Rattle.numbers.specs.declared.Halt.{Halt}
+use Rattle.numbers.specs.declared.Read.{Read}
 use Rattle.joining.proofs.Shift.{moved_up}
 use Rattle.numbers.proofs.Laws.Numbers.{byte-below, next-below}
 
@@ -54,15 +55,15 @@ fuse-more : (big : Bool) (v scale b : ℕ) (m : Got (List ℕ))
 fuse-more big v scale b (is bs e) = rw (join_more big v scale b bs)
 fuse-more big v scale b (isnt r p) = refl
 
-pub joined-none : (radix : ℕ) (big : Bool) (n : ℕ) (s : List ℕ) (at : ℕ) {a : Num} {r p : ℕ} → told a ≡ byte radix s at → a ≡ No r p → told a ≡ joined radix big n s at
+pub joined-none : (radix : ℕ) (big : Bool) (n : ℕ) (s : List ℕ) (at : ℕ) {a : Result (Read ℕ) Halt} {h : Halt} → told a ≡ byte radix s at → a ≡ Err h → told (Err h) ≡ joined radix big n s at
 unfolding joined bytes_of
 joined-none radix big n s at e g = rw (← e, g)
 
-pub joined-start : (radix : ℕ) (big : Bool) (s : List ℕ) (at : ℕ) {n : ℕ} {a : Num} {b p : ℕ}
-    → told a ≡ byte radix s at → a ≡ Is b p → n ≤ 3 → Joining radix big n s at b 256 p n
+pub joined-start : (radix : ℕ) (big : Bool) (s : List ℕ) (at : ℕ) {n : ℕ} {a : Result (Read ℕ) Halt} {r : Read ℕ}
+    → told a ≡ byte radix s at → a ≡ Ok r → n ≤ 3 → Joining radix big n s at r.value 256 r.next n
 unfolding joined bytes_of
-joined-start radix big s at {n} {a} {b} {p} e g h = record {
-  rest = rw (← e, g) (fuse-first big b (more_bytes radix n s p));
+joined-start radix big s at {n} {a} {r} e g h = record {
+  rest = rw (← e, g) (fuse-first big r.value (more_bytes radix n s r.next));
   small = byte-below radix s at g e;
   room = omega (arith, pow-le-pow_right {n = 256} (lit< tt) h);
 }
@@ -82,50 +83,55 @@ module _ {radix : ℕ} {big : Bool} {n : ℕ} {s : List ℕ} {at v scale p k : �
     room-more : scale * 256 * 256 ^ (k - 1) ≤ 4294967296
     room-more = let e : 256 ^ k ≡ 256 * 256 ^ (k - 1) = ap (λ (x : ℕ). 256 ^ x) next ∙ pow-succ' 256 (k - 1) in rw mul_assoc (rw e at w.room)
 
-    module _ {b : Num} (e : told b ≡ next_byte radix s p) where
-      pub joined-stop : {r x : ℕ} → b ≡ No r x → told b ≡ joined radix big n s at
+    module _ {b : Result (Read ℕ) Halt} (e : told b ≡ next_byte radix s p) where
+      pub joined-stop : {h : Halt} → b ≡ Err h → told (Err h) ≡ joined radix big n s at
       unfolding more_bytes
       joined-stop g = sym (w.rest ∙ (ap (λ (x : ℕ). join_from radix big v scale x s p) next ∙ rw (← e, g)))
 
-      pub joined-more : {d q : ℕ} → b ≡ Is d q → {v' : ℕ} → v' ≡ join_step big v scale d → v' < scale * 256 → Joining radix big n s at v' (scale * 256) q (k - 1)
+      pub joined-more : {r : Read ℕ} → b ≡ Ok r → {v' : ℕ} → v' ≡ join_step big v scale r.value → v' < scale * 256 → Joining radix big n s at v' (scale * 256) r.next (k - 1)
       unfolding more_bytes
-      joined-more {d} {q} g {v'} f l = record {
-        rest = w.rest ∙ (ap (λ (x : ℕ). join_from radix big v scale x s p) next ∙ rw (← e, g, f) (fuse-more big v scale d (more_bytes radix (k - 1) s q)));
+      joined-more {r} g {v'} f l = record {
+        rest = w.rest ∙ (ap (λ (x : ℕ). join_from radix big v scale x s p) next ∙ rw (← e, g, f) (fuse-more big v scale r.value (more_bytes radix (k - 1) s r.next)));
         small = l;
         room = room-more;
       }
 
--- `joined_of`: v is joined of so many bytes
-pub record Placing (radix : ℕ) (big : Bool) (n : ℕ) (s : List ℕ) (at v places p k : ℕ) : Type 0 where
-  pub joins : Joining radix big n s at v (256 ^ places) p k
+-- `joined_of`: v is joined of so many bytes, of the n + 1
+pub record Placing (radix : ℕ) (big : Bool) (n : ℕ) (s : List ℕ) (at v places p : ℕ) : Type 0 where
+  pub joins : Joining radix big n s at v (256 ^ places) p (n + 1 - places)
   pub some : 1 ≤ places
-  pub four : places + k ≤ 4
+  pub four : n ≤ 3
 
-pub placing-start : (radix : ℕ) (big : Bool) (s : List ℕ) (at : ℕ) {n : ℕ} {a : Num} {b p : ℕ}
-    → told a ≡ byte radix s at → a ≡ Is b p → n ≤ 3 → Placing radix big n s at b 1 p n
-placing-start radix big s at e g h = record { joins = joined-start radix big s at e g h; some = omega arith; four = omega arith }
+pub placing-start : (radix : ℕ) (big : Bool) (s : List ℕ) (at : ℕ) {n : ℕ} {a : Result (Read ℕ) Halt} {r : Read ℕ}
+    → told a ≡ byte radix s at → a ≡ Ok r → n ≤ 3 → {v : ℕ} → v ≡ r.value → Placing radix big n s at v 1 r.next
+placing-start radix big s at {n} {r = r} e g h f =
+    let z : n ≡ n + 1 - 1 = omega arith in
+    record { joins = rw f (subst (λ (k : ℕ). Joining radix big n s at r.value 256 r.next k) z (joined-start radix big s at e g h)); some = omega arith; four = h }
 
-module _ {radix : ℕ} {big : Bool} {n : ℕ} {s : List ℕ} {at v places p k : ℕ} (w : Placing radix big n s at v places p k) where
-  pub placing-end : k ≤ 0 → is v p ≡ joined radix big n s at
-  placing-end = joined_end w.joins
+module _ {radix : ℕ} {big : Bool} {n : ℕ} {s : List ℕ} {at v places p : ℕ} (w : Placing radix big n s at v places p) where
+  pub placing-end : n + 1 ≤ places → is v p ≡ joined radix big n s at
+  placing-end h = joined_end w.joins (omega arith)
 
-  pub placing-fits : k ≤ 0 → Fits w32 v
-  placing-fits = joined-fits w.joins
+  pub placing-fits : n + 1 ≤ places → Fits w32 v
+  placing-fits h = joined-fits w.joins (omega arith)
 
   pub placing-small : v < 256 ^ places
   placing-small = w.joins.small
 
-  module _ (h : 0 < k) {b : Num} (e : told b ≡ next_byte radix s p) where
-    pub placing-stop : {r x : ℕ} → b ≡ No r x → told b ≡ joined radix big n s at
-    placing-stop = joined-stop w.joins h e
+  module _ (h : places < n + 1) {b : Result (Read ℕ) Halt} (e : told b ≡ next_byte radix s p) where
+    pub placing-stop : {x : Halt} → b ≡ Err x → told (Err x) ≡ joined radix big n s at
+    placing-stop = joined-stop w.joins (omega arith) e
 
-    pub placing-more : {d q : ℕ} → b ≡ Is d q → {v' : ℕ} → v' ≡ join_step big v (256 ^ places) d → v' < 256 ^ places * 256
-        → Placing radix big n s at v' (places + 1) q (k - 1)
-    placing-more g f l = record {
-      joins = rw (add-one, pow-suc) (joined-more w.joins h e g f l);
-      some = omega arith;
-      four = omega (arith, w.four);
-    }
+    pub placing-more : {r : Read ℕ} → b ≡ Ok r → {d : ℕ} → d ≡ r.value → {v' : ℕ} → v' ≡ join_step big v (256 ^ places) d → v' < 256 ^ places * 256
+        → Placing radix big n s at v' (places + 1) r.next
+    placing-more {r} g {d} i {v'} f l =
+        let z : n + 1 - places - 1 ≡ n + 1 - (places + 1) = omega arith in
+        let y : 256 ^ (places + 1) ≡ 256 ^ places * 256 = rw (add-one, pow-suc) in
+        record {
+          joins = rw (y, ← z) (joined-more w.joins (omega arith) e g (rw i at f) l);
+          some = omega arith;
+          four = w.four;
+        }
 
 -- `moved`: whole bytes up
 module _ {b places : ℕ} (l : b < 256) where

@@ -9,6 +9,7 @@ use lib.ListN.{length, get_or}
 use mir.Val.{Fits}
 use mir.Syntax.{w64}
 use borrow.Author.Rules.{rules}
+use Rattle.std.specs.Prelude.{Result, Ok, Err}
 use Rattle.format.specs.Bytes.{worth}
 use Rattle.format.specs.Number.{byte, joined}
 use Rattle.format.specs.Got.{is}
@@ -17,8 +18,8 @@ use Rattle.digits.specs.Capitals.{is_capital, capitals}
 use Rattle.quick_numbers.specs.Short.{Two}
 use Rattle.joined_bytes.specs.Joins.{Joins}
 use Rattle.joined_bytes.specs.Steps.{join_step}
-use Rattle.numbers.specs.declared.Num.{Num}
-use Rattle.numbers.specs.declared.Num.TheVariants.{Is}
+use Rattle.numbers.specs.declared.Halt.{Halt}
+use Rattle.numbers.specs.declared.Read.{Read}
 use Rattle.joined_bytes.proofs.Laws.Joined.{Joining, joined-start, joined-more, joined_end}
 use Rattle.quick_numbers.proofs.Laws.{two_is, spaced-is}
 
@@ -34,13 +35,13 @@ module _ (radix : ℕ) (big : Bool) (s : List ℕ) (at : ℕ) (f : radix ≡ 16)
   first-joins : (n : ℕ) {a : ℕ} → n ≤ 3 → Two s at a → a ≤ 255 → Joining radix big n s at a 256 (at + 2) n
   first-joins n {a} k w l =
       let e : is a (at + 2) ≡ byte radix s at = rw f (sym (w.got (omega arith))) in
-      joined-start radix big s at {a = Is a (at + 2)} e refl k
+      joined-start radix big s at {a = Ok (record { value = a; next = at + 2 })} e refl k
 
   more-joins : {n v scale p k b : ℕ} → Joining radix big n s at v scale p k → 0 < k → p + 3 ≤ length s → get_or s p 0 ≡ 32 → (q : ℕ) → q ≡ p + 1 → Two s q b → b ≤ 255
       → {x : ℕ} → x ≡ join_step big v scale b → x < scale * 256 → Joining radix big n s at x (scale * 256) (p + 3) (k - 1)
   more-joins {p = p} {b = b} j o h e q z w l g m =
       let y = spaced-is radix s p f (omega arith) (omega arith) e (rw z at w) in
-      joined-more j o {b = Is b (p + 3)} (sym (y.got (omega arith))) refl g m
+      joined-more j o {b = Ok (record { value = b; next = p + 3 })} (sym (y.got (omega arith))) refl g m
 
 -- `short_two`, `short_three`
 module _ (radix : ℕ) (big : Bool) (s : List ℕ) (at : ℕ) where
@@ -82,8 +83,12 @@ module _ (radix : ℕ) (big : Bool) (n : ℕ) (s : List ℕ) (at next : ℕ) {li
   pub joins-fits : length s < 2 ^ 64 → Fits w64 next
   joins-fits k = record { fits = omega (arith, w.inside h) }
 
--- an answer made anew
-pub anew-joined : (radix : ℕ) (big : Bool) (n : ℕ) (s : List ℕ) (at : ℕ) {a r : Num} → r ≡ a → told a ≡ joined radix big n s at → told r ≡ joined radix big n s at
-anew-joined radix big n s at e f = rw e f
+-- an answer of the long way
+module _ (radix : ℕ) (big : Bool) (n : ℕ) (s : List ℕ) (at : ℕ) {a : Result (Read ℕ) Halt} (e : told a ≡ joined radix big n s at) where
+  pub long-is : {r : Read ℕ} → a ≡ Ok r → is r.value r.next ≡ joined radix big n s at
+  long-is g = rw g at e
 
-pub ruleset lengths = (rules, joins-is, joins-fits, anew-joined)
+  pub long-stops : {h : Halt} → a ≡ Err h → told (Err h) ≡ joined radix big n s at
+  long-stops g = rw g at e
+
+pub ruleset lengths = (rules, joins-is, joins-fits, long-is, long-stops)

@@ -1,12 +1,6 @@
 use Rattle.joined_bytes.proofs.Laws.Joined.{stepping}
 use Rattle.joined_bytes.proofs.join_step.Goals as goal
 
-pub overflow_add-result : goal.overflow_add-result
-overflow_add-result c = search stepping
-
-pub moved-requires : goal.moved-requires
-moved-requires c = search stepping
-
 pub overflow_add-result-else-big : goal.overflow_add-result-else-big
 overflow_add-result-else-big c = search stepping
 

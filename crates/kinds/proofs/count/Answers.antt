@@ -10,12 +10,6 @@ one_if-many-requires c = search counting
 pub overflow_add-many : goal.overflow_add-many
 overflow_add-many c = search counting
 
-pub overflow_add-i : goal.overflow_add-i
-overflow_add-i c = search counting
-
-pub loop-i-smaller : goal.loop-i-smaller
-loop-i-smaller c = search counting
-
 pub loop-i-preserved : goal.loop-i-preserved
 loop-i-preserved c = search counting
 

@@ -1,9 +1,5 @@
 use Rattle.kinds.proofs.Laws.{Counting}
-use Prim.Native.Nat.{◌-◌}
 use Rattle.kinds.proofs.count.Given as goal
 
 abbrev pub invariant-loop-i : goal.invariant-loop-i
 invariant-loop-i l = Counting l.masks l.map l.n l.kind l.many l.i
-
-abbrev pub decreases-loop-i : goal.decreases-loop-i
-decreases-loop-i l = l.n - l.i

@@ -4,7 +4,7 @@ use Prim.Native.Nat.{ℕ, suc, ◌+◌, ◌-◌, ◌*◌, ◌≤◌, ◌<◌}
 use mathlib.Core.Path.{◌≡◌, refl, ap, sym, ◌∙◌}
 use mathlib.Core.Bool.{Bool}
 use mathlib.Core.List.{List, [], ◌∷◌}
-use mathlib.Core.Option.{Option}
+use mathlib.Core.Option as math
 use native.Mathlib.Omega.{arith}
 use native.Mathlib.Nat.{add-zero}
 use mir.Val.{Fits}
@@ -16,7 +16,7 @@ use Rattle.format.specs.Pairs.{Fragment}
 use Rattle.laws.specs.Rows.{from, fragment}
 use Rattle.sites.specs.declared.Filled.{Filled}
 use Rattle.references.specs.References.{refers_in}
-use Rattle.referred_address.specs.declared.Address.{Address}
+use Rattle.std.specs.Prelude.{Option}
 use Rattle.referred_address.specs.Address.{address_in, told_address}
 use Rattle.record_parts.specs.Parts.{fragment_from}
 use Rattle.laid_field.specs.Field.{field_by}
@@ -25,12 +25,12 @@ use Rattle.laid_rows.specs.Over.{Around, around, address_for, laid_over}
 -- ------------------------------------------------------------------ `lay_fragment`
 
 module _ (part bs rows : List ℕ) (i : ℕ) (big : Bool) (width : ℕ) (areas symbols : List ℕ) (filled : Filled) (chosen outside : List ℕ) where
-  pub fragment-laid : {mode entry index : ℕ} → mode ≡ get_or rows (3 * i) 0 → entry ≡ get_or rows (3 * i + 1) 0 → index ≡ get_or rows (3 * i + 2) 0 → (to : Address)
+  pub fragment-laid : {mode entry index : ℕ} → mode ≡ get_or rows (3 * i) 0 → entry ≡ get_or rows (3 * i + 1) 0 → index ≡ get_or rows (3 * i + 2) 0 → (to : Option ℕ)
       → ((place : ℕ) → told_address to ≡ address_in chosen outside index (refers_in areas symbols filled (fragment mode entry index) entry place)) → {site : ℕ} → site ≡ entry - width → {part' : List ℕ}
       → part' ≡ sets part site (field_by big site bs mode (told_address to)) → part' ≡ laid_over big width (around areas symbols filled chosen outside) bs (from (fragment_from rows) i 1) part
   unfolding laid_over from fragment_from address_for
   fragment-laid {mode} {entry} {index} em ee ei to f {site} es h =
-      h ∙ (ap (λ (o : Option ℕ). sets part site (field_by big site bs mode o)) (f 0) ∙ rw (es, em, ee, ei))
+      h ∙ (ap (λ (o : math.Option ℕ). sets part site (field_by big site bs mode o)) (f 0) ∙ rw (es, em, ee, ei))
 
 pub ruleset laying = (rules, fragment-laid)
 

@@ -35,20 +35,18 @@ module _ {big : Bool} {width : ℕ} {w : Around} {pairs content rows : List ℕ}
   unfolding rows_over
   over-now z = sym (g.rest ∙ rw z)
 
-  pub going_end : n ≤ k → out ≡ rows_over big width w pairs content rows 0 (min n 4096) out₀
-  going_end h = over-now (omega arith)
+  module _ {m : ℕ} (em : m ≡ min n 4096) where
+    pub going_end : m ≤ k → out ≡ rows_over big width w pairs content rows 0 (min n 4096) out₀
+    going_end h = over-now (omega arith)
 
-  pub going-full : 4096 ≤ k → out ≡ rows_over big width w pairs content rows 0 (min n 4096) out₀
-  going-full h = over-now (omega arith)
+    module _ (h : k < m) where
+      pub going_more : {out' : List ℕ} → out' ≡ row_over big width w pairs content rows k out → Going big width w pairs content rows n out₀ out' (k + 1)
+      unfolding rows_over
+      going_more {out'} e =
+          let z : min n 4096 - k ≡ suc (min n 4096 - (k + 1)) = omega arith in
+          record { within = omega arith; long = ap length e ∙ (row-length big width w pairs content rows k out ∙ g.long); rest = g.rest ∙ (ap (λ (j : ℕ). rows_over big width w pairs content rows k j out) z ∙ rw (e, add-one)) }
 
-  module _ (h : k < n) (m : k < 4096) where
-    pub going_more : {out' : List ℕ} → out' ≡ row_over big width w pairs content rows k out → Going big width w pairs content rows n out₀ out' (k + 1)
-    unfolding rows_over
-    going_more {out'} e =
-        let z : min n 4096 - k ≡ suc (min n 4096 - (k + 1)) = omega arith in
-        record { within = omega arith; long = ap length e ∙ (row-length big width w pairs content rows k out ∙ g.long); rest = g.rest ∙ (ap (λ (j : ℕ). rows_over big width w pairs content rows k j out) z ∙ rw (e, add-one)) }
+      pub going-low : k ≤ 4096
+      going-low = omega arith
 
-    pub going-low : k ≤ 4096
-    going-low = omega arith
-
-pub ruleset all-pairs = (rules, going_start, going_end, going-full, going_more, going-low)
+pub ruleset all-pairs = (rules, going_start, going_end, going_more, going-low)

@@ -19,21 +19,19 @@ use Rattle.lists.proofs.Laws.Lists.{self, spaced-more, spaced-stored}
 
 -- n bytes stand before the place p, and the space of the next at it
 pub record Beginning (radix : ℕ) (s : List ℕ) (at last : ℕ) (room left : List ℕ) (n p : ℕ) : Type 0 where
-  pub counting : Counting (next_byte radix) s at n p (length s - n)
-  pub column : Column self (next_byte radix) s at room left n p (length s - n)
+  pub counting : Counting (next_byte radix) s at n p
+  pub column : Column self (next_byte radix) s at room left n p
   pub place : p ≡ at + 3 * n
   pub space : p < last → get_or s p 0 ≡ 32
 
 module _ {radix : ℕ} {s : List ℕ} {at last : ℕ} (w : Reach radix s at last) where
   pub begin-start : (room : List ℕ) → Beginning radix s at last room room 0 at
-  begin-start room =
-      let z : length s ≡ length s - 0 = omega arith in
-      record {
-        counting = rw z at (count-start (next_byte radix) s at);
-        column = rw z at (column-start self (next_byte radix) s at room);
-        place = omega arith;
-        space = λ h. w.space (omega arith);
-      }
+  begin-start room = record {
+    counting = count-start (next_byte radix) s at;
+    column = column-start self (next_byte radix) s at room;
+    place = omega arith;
+    space = λ h. w.space (omega arith);
+  }
 
   module _ {room left : List ℕ} {n p d e : ℕ} (u : Beginning radix s at last room left n p) (h : p < last) (a : Hex (get_or s (p + 1) 0) d) (b : Hex (get_or s (p + 2) 0) e) (k : d ≤ 15) (l : e ≤ 15) (c : get_or s (p + 3) 0 ≡ 32) where
     begin-spaced : Spaced radix s p (d * 16 + e)
@@ -43,14 +41,12 @@ module _ {radix : ℕ} {s : List ℕ} {at last : ℕ} (w : Reach radix s at last
         spaced-is radix s p (w.sixteen (omega arith)) (omega arith) (omega arith) (u.space h) (two_is s (p + 1) {v = d * 16 + e} {c = 32} (omega arith) (rw x (capitals-3 (get_or s (p + 1) 0) (get_or s (p + 2) 0) a b k l)) (rw (y, c)) (omega arith))
 
     pub begin-more : Beginning radix s at last room (set left n (d * 16 + e)) (n + 1) (p + 3)
-    begin-more =
-        let z : length s - n - 1 ≡ length s - (n + 1) = omega arith in
-        record {
-          counting = rw z at (spaced-more radix begin-spaced (omega arith) (omega arith) u.counting);
-          column = rw z at (spaced-stored radix begin-spaced (omega arith) (omega arith) u.column refl);
-          place = omega arith;
-          space = λ x. c;
-        }
+    begin-more = record {
+      counting = spaced-more radix begin-spaced (omega arith) (omega arith) u.counting;
+      column = spaced-stored radix begin-spaced (omega arith) (omega arith) u.column refl;
+      place = omega arith;
+      space = λ x. c;
+    }
 
 pub begin-end : {radix : ℕ} {s : List ℕ} {at last : ℕ} {room left : List ℕ} {n p : ℕ} → Beginning radix s at last room left n p → BytesBegun radix s at (record { count = n; end = p }) room left
 begin-end {radix} {s} {at} {n = n} {p = p} u = record {
@@ -85,10 +81,9 @@ pub begin-last : {radix : ℕ} {s : List ℕ} {at last : ℕ} {room left : List 
     → BytesBegun radix s at (record { count = n + 1; end = p + 3 }) room left'
 begin-last {radix} {s} {at} {n = n} {p = p} u q l e =
     let w = last-spaced radix s p q in
-    let z : length s - n - 1 ≡ length s - (n + 1) = omega arith in
-    let k : 0 < length s - n = omega (arith, w.inside l, u.place) in
-    let c = rw z at (spaced-more radix w l k u.counting) in
-    let d = rw z at (spaced-stored radix w l k u.column e) in
+    let k : n < length s = omega (arith, w.inside l, u.place) in
+    let c = spaced-more radix w l k u.counting in
+    let d = spaced-stored radix w l k u.column e in
     record {
       within = omega (arith, w.inside l, u.place);
       counted = c.count;

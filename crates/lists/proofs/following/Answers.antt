@@ -3,9 +3,3 @@ use Rattle.lists.proofs.following.Goals as goal
 
 pub returns-then-t-at : goal.returns-then-t-at
 returns-then-t-at c = search onward
-
-pub next_byte-requires : goal.next_byte-requires
-next_byte-requires c = search onward
-
-pub returns : goal.returns
-returns c = search onward

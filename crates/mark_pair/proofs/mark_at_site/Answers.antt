@@ -1,23 +1,8 @@
 use Rattle.mark_pair.proofs.Pairs.{at-site}
 use Rattle.mark_pair.proofs.mark_at_site.Goals as goal
 
-pub work_line-worked-requires : goal.work_line-worked-requires
-work_line-worked-requires c = search at-site
+pub returns-in-Some : goal.returns-in-Some
+returns-in-Some c = search at-site
 
-pub enum_told-1 : goal.enum_told-1
-enum_told-1 c = search at-site
-
-pub enum_told-in_default : goal.enum_told-in_default
-enum_told-in_default c = search at-site
-
-pub returns-in_default : goal.returns-in_default
-returns-in_default c = search at-site
-
-pub mark_entries-requires : goal.mark_entries-requires
-mark_entries-requires c = search at-site
-
-pub shape_of-map : goal.shape_of-map
-shape_of-map c = search at-site
-
-pub returns : goal.returns
-returns c = search at-site
+pub returns-in-None : goal.returns-in-None
+returns-in-None c = search at-site

@@ -1,20 +1,11 @@
-use Rattle.modes.proofs.Laws.{moding}
+use Rattle.modes.proofs.Laws.{moding, mode-6, mode-7}
 use Rattle.modes.proofs.parse_extended_mode.Goals as goal
 
-pub any_mode-m-requires : goal.any_mode-m-requires
-any_mode-m-requires c = search moding
+pub returns-in_err-mode : goal.returns-in_err-mode
+returns-in_err-mode c = search moding
 
-pub enum_known-m : goal.enum_known-m
-enum_known-m c = search moding
-
-pub enum_told-1 : goal.enum_told-1
-enum_told-1 c = search moding
-
-pub returns-in_default : goal.returns-in_default
-returns-in_default c = search moding
-
-pub returns-then-value-lt2048 : goal.returns-then-value-lt2048
-returns-then-value-lt2048 c = search moding
+pub returns-then-mode-lt2048 : goal.returns-then-mode-lt2048
+returns-then-mode-lt2048 c = mode-6 _ _ _ c.any_mode.ensures c.in_ok-mode.was c.if-mode-lt2048.true
 
 pub returns : goal.returns
-returns c = search moding
+returns c = mode-7 _ _ _ c.any_mode.ensures c.in_ok-mode.was c.if-mode-lt2048.false

@@ -16,9 +16,10 @@ use Rattle.format.specs.Lists.{pick, run}
 use Rattle.format.specs.Bytes.{is_blank, worth, is_digit}
 use Rattle.format.specs.Number.{horner, past, valued, digits, number, byte, next_byte, space}
 use Rattle.format.specs.Got.{Got, is, isnt, then}
+use Rattle.std.specs.Prelude.{Result, Ok, Err}
 use Rattle.numbers.specs.Told.{told}
-use Rattle.numbers.specs.declared.Num.{Num}
-use Rattle.numbers.specs.declared.Num.TheVariants.{Is, No}
+use Rattle.numbers.specs.declared.Halt.{Halt}
+use Rattle.numbers.specs.declared.Read.{Read}
 use Rattle.scan.proofs.Laws.Tests.{by_order}
 
 -- digits never make a value less
@@ -84,25 +85,29 @@ module _ {radix : ℕ} {s : List ℕ} {at v i : ℕ} (w : Digits radix s at v i)
           worth = w.worth ∙ rw (m, e, a) (sym (keeps radix (omega arith) (v * radix + worth (get_or s i 0)) (map worth (run (is_digit radix) (drop (i + 1) s)))));
         }
 
-pub ruleset digiting = (rules, digits-start, digits_more, digits-stop, digits-end)
+-- at the end of the text no digit stands
+pub digits-none : (radix : ℕ) (s : List ℕ) (at : ℕ) → length s ≤ at → isnt 1 at ≡ number radix s at
+digits-none radix s at h = digits-end (digits-start radix s at) h (rw (eq-eqb at at refl))
+
+pub ruleset digiting = (rules, digits-start, digits_more, digits-stop, digits-end, digits-none)
 
 -- one digit more fits
 pub grown-fits : (v r d : ℕ) → v ≤ 4294967296 → r < 256 → d < r → v * r + d < 2 ^ 64
 grown-fits v r d a b c = omega (arith, mul-le-mul a (le_of_lt b))
 
 -- `any_byte`
-module _ (radix : ℕ) (s : List ℕ) (at : ℕ) {n : Num} (e : told n ≡ number radix s at) where
-  pub byte-1 : {r p : ℕ} → n ≡ No r p → told n ≡ byte radix s at
+module _ (radix : ℕ) (s : List ℕ) (at : ℕ) {n : Result (Read ℕ) Halt} (e : told n ≡ number radix s at) where
+  pub byte-1 : {h : Halt} → n ≡ Err h → told (Err h) ≡ byte radix s at
   unfolding byte
   byte-1 g = rw (← e, g)
 
-  pub byte-2 : {v q : ℕ} → n ≡ Is v q → v < 256 → is v q ≡ byte radix s at
+  pub byte-2 : {r : Read ℕ} → n ≡ Ok r → r.value < 256 → told (Ok r) ≡ byte radix s at
   unfolding byte
-  byte-2 {v} g l = rw (← e, g, lt-ltb v 256 l)
+  byte-2 {r} g l = rw (← e, g, lt-ltb r.value 256 l)
 
-  pub byte-3 : {v q : ℕ} → n ≡ Is v q → 256 ≤ v → isnt 3 at ≡ byte radix s at
+  pub byte-3 : {r : Read ℕ} → n ≡ Ok r → 256 ≤ r.value → isnt 3 at ≡ byte radix s at
   unfolding byte
-  byte-3 {v} g l = rw (← e, g, le-ltb v 256 l)
+  byte-3 {r} g l = rw (← e, g, le-ltb r.value 256 l)
 
 -- blanks, by the place behind them
 module _ (s : List ℕ) (at : ℕ) {a : ℕ} (e : a ≡ past is_blank s at) where
@@ -150,11 +155,11 @@ next_small radix s at = go (space s at)
     go (is u q) = byte_small radix s q
     go (isnt r p) = tt
 
-module _ (radix : ℕ) (s : List ℕ) (at : ℕ) {n : Num} {v q : ℕ} (g : n ≡ Is v q) where
-  pub byte-below : told n ≡ byte radix s at → v < 256
+module _ (radix : ℕ) (s : List ℕ) (at : ℕ) {n : Result (Read ℕ) Halt} {r : Read ℕ} (g : n ≡ Ok r) where
+  pub byte-below : told n ≡ byte radix s at → r.value < 256
   unfolding is_byte
   byte-below e = subst is_byte (sym e ∙ ap told g) (byte_small radix s at)
 
-  pub next-below : told n ≡ next_byte radix s at → v < 256
+  pub next-below : told n ≡ next_byte radix s at → r.value < 256
   unfolding is_byte
   next-below e = subst is_byte (sym e ∙ ap told g) (next_small radix s at)

@@ -10,8 +10,8 @@ room-requires c = search adding
 pub enum_known-entry : goal.enum_known-entry
 enum_known-entry c = search adding
 
-pub returns-then-na-ge64 : goal.returns-then-na-ge64
-returns-then-na-ge64 c = search adding
+pub returns-then-na-ge-AREAS : goal.returns-then-na-ge-AREAS
+returns-then-na-ge-AREAS c = search adding
 
 pub put_area-requires : goal.put_area-requires
 put_area-requires c = search adding
@@ -25,8 +25,8 @@ room-requires-in-Area c = search adding
 pub enum_known-entry-in-Symbol-1 : goal.enum_known-entry-in-Symbol-1
 enum_known-entry-in-Symbol-1 c = search adding
 
-pub returns-then-ns-ge1024 : goal.returns-then-ns-ge1024
-returns-then-ns-ge1024 c = search adding
+pub returns-then-ns-ge-SYMBOLS : goal.returns-then-ns-ge-SYMBOLS
+returns-then-ns-ge-SYMBOLS c = search adding
 
 pub put_symbol-requires : goal.put_symbol-requires
 put_symbol-requires c = search adding
@@ -40,11 +40,11 @@ room-requires-in-Symbol c = search adding
 pub returns-in-Ignored : goal.returns-in-Ignored
 returns-in-Ignored c = search adding
 
-pub returns-else-na-ge64 : goal.returns-else-na-ge64
-returns-else-na-ge64 c = search adding
+pub returns-else-na-ge-AREAS : goal.returns-else-na-ge-AREAS
+returns-else-na-ge-AREAS c = search adding
 
 pub shape_of-symbols : goal.shape_of-symbols
 shape_of-symbols c = search adding
 
-pub returns-else-ns-ge1024 : goal.returns-else-ns-ge1024
-returns-else-ns-ge1024 c = search adding
+pub returns-else-ns-ge-SYMBOLS : goal.returns-else-ns-ge-SYMBOLS
+returns-else-ns-ge-SYMBOLS c = search adding

@@ -1,23 +1,8 @@
 use Rattle.page_name.proofs.Laws.{naming}
 use Rattle.page_name.proofs.name.Goals as goal
 
-pub loop-i-init : goal.loop-i-init
-loop-i-init c = search naming
+pub loop-byte-init : goal.loop-byte-init
+loop-byte-init c = search naming
 
-pub bounds-bytes-i : goal.bounds-bytes-i
-bounds-bytes-i c = search naming
-
-pub page_byte-now-requires : goal.page_byte-now-requires
-page_byte-now-requires c = search naming
-
-pub overflow_add-i : goal.overflow_add-i
-overflow_add-i c = search naming
-
-pub loop-i-smaller : goal.loop-i-smaller
-loop-i-smaller c = search naming
-
-pub loop-i-preserved : goal.loop-i-preserved
-loop-i-preserved c = search naming
-
-pub returns : goal.returns
-returns c = search naming
+pub loop-byte-preserved : goal.loop-byte-preserved
+loop-byte-preserved c = search naming

@@ -1,26 +1,14 @@
 use Rattle.page_name.proofs.Laws.{bytes}
 use Rattle.page_name.proofs.page_byte.Goals as goal
 
-pub put-requires : goal.put-requires
-put-requires c = search bytes
-
 pub returns-then-byte-eq60 : goal.returns-then-byte-eq60
 returns-then-byte-eq60 c = search bytes
-
-pub put-requires-then-byte-eq62 : goal.put-requires-then-byte-eq62
-put-requires-then-byte-eq62 c = search bytes
 
 pub returns-then-byte-eq62 : goal.returns-then-byte-eq62
 returns-then-byte-eq62 c = search bytes
 
-pub put-requires-then-byte-eq38 : goal.put-requires-then-byte-eq38
-put-requires-then-byte-eq38 c = search bytes
-
 pub returns-then-byte-eq38 : goal.returns-then-byte-eq38
 returns-then-byte-eq38 c = search bytes
-
-pub quoted_byte-requires : goal.quoted_byte-requires
-quoted_byte-requires c = search bytes
 
 pub returns : goal.returns
 returns c = search bytes

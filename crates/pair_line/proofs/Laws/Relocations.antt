@@ -8,6 +8,7 @@ use native.Mathlib.Omega.{arith}
 use lib.ListN.{length}
 use borrow.Author.Rules.{rules}
 use borrow.Author.Tests.{eq-eqb}
+use Rattle.std.specs.Prelude.{Result, Ok, Err}
 use Rattle.format.specs.Bytes.{is_blank}
 use Rattle.format.specs.Got.{Got, is, isnt}
 use Rattle.format.specs.Number.{past}
@@ -16,16 +17,13 @@ use Rattle.format.specs.Entries.{spelled, R, lead}
 use Rattle.format.specs.Pairs.{index, next_index, zero_index, area_part, relocation_line}
 use Rattle.format.specs.Pairs as the
 use Rattle.numbers.specs.Told.{told}
-use Rattle.numbers.specs.declared.Num.{Num}
-use Rattle.numbers.specs.declared.Num.TheVariants.{Is, No}
+use Rattle.numbers.specs.declared.Halt.{Halt}
+use Rattle.numbers.specs.declared.Read.{Read}
 use Rattle.zero_only.specs.Zero.{zero_only}
-use Rattle.fields.specs.declared.Place.{Place}
-use Rattle.fields.specs.declared.Place.TheVariants.{At, Not}
 use Rattle.fields.specs.Told.{went}
 use Rattle.fragments.specs.Fragments.{FragmentsRead}
 use Rattle.pair_line.specs.Usual.{Zeroed}
-use Rattle.pair_line.specs.Pairs.{sized, counted, fragments_in, numbered, Relocations}
-use Rattle.pair_line.specs.declared.RelocationLine.TheVariants.{Relocation, NoRelocation}
+use Rattle.pair_line.specs.Pairs.{sized, fragments_in, numbered, Relocations}
 
 -- `zero_index`
 pub zero_is : (radix : ℕ) (big : Bool) (s : List ℕ) (at : ℕ) {m n : Got ℕ} → m ≡ index radix big s at → n ≡ zero_only m at → n ≡ zero_index radix big s at
@@ -33,9 +31,9 @@ unfolding zero_index
 zero_is radix big s at e g = g ∙ rw e
 
 -- the same of an index that was read
-pub zero-2 : (radix : ℕ) (big : Bool) (s : List ℕ) (at : ℕ) {i : Num} → told i ≡ index radix big s at → {v q : ℕ} → i ≡ Is v q → v ≡ 0 → is v q ≡ zero_index radix big s at
+pub zero-2 : (radix : ℕ) (big : Bool) (s : List ℕ) (at : ℕ) {i : Result (Read ℕ) Halt} → told i ≡ index radix big s at → {r : Read ℕ} → i ≡ Ok r → r.value ≡ 0 → is r.value r.next ≡ zero_index radix big s at
 unfolding zero_index
-zero-2 radix big s at e {v} g h = rw (← e, g, eq-eqb v 0 h)
+zero-2 radix big s at e {r} g h = rw (← e, g, eq-eqb r.value 0 h)
 
 pub ruleset zeros = (rules, zero_is)
 
@@ -43,28 +41,28 @@ pub ruleset zeros = (rules, zero_is)
 pub part-usual : (f : Form) (s : List ℕ) {r : Bool} → Zeroed f.radix s r → r ≡ true → {x : Got ℕ} → x ≡ index f.radix f.big s 8 → x ≡ area_part f s 0
 part-usual f s u g i = i ∙ sym (u.read g f.big f.address_length)
 
-module _ (f : Form) (s : List ℕ) {l : Place} (e : went l ≡ lead (spelled R) s 0) where
-  pub part-1 : {r p : ℕ} → l ≡ Not r p → isnt r p ≡ area_part f s 0
+module _ (f : Form) (s : List ℕ) {l : Result ℕ Halt} (e : went l ≡ lead (spelled R) s 0) where
+  pub part-1 : {h : Halt} → l ≡ Err h → told (Err h) ≡ area_part f s 0
   unfolding area_part
   part-1 g = rw (← e, g)
 
-  module _ {p : ℕ} (g : l ≡ At p) {z : Num} (i : told z ≡ zero_index f.radix f.big s p) where
-    pub part-2 : {r x : ℕ} → z ≡ No r x → told z ≡ area_part f s 0
+  module _ {p : ℕ} (g : l ≡ Ok p) {z : Result (Read ℕ) Halt} (i : told z ≡ zero_index f.radix f.big s p) where
+    pub part-2 : {h : Halt} → z ≡ Err h → told (Err h) ≡ area_part f s 0
     unfolding area_part
     part-2 j = rw (← e, g, ← i, j)
 
-    pub part-3 : {v a : ℕ} → z ≡ Is v a → {x : Got ℕ} → x ≡ next_index f.radix f.big s a → x ≡ area_part f s 0
+    pub part-3 : {r : Read ℕ} → z ≡ Ok r → {x : Got ℕ} → x ≡ next_index f.radix f.big s r.next → x ≡ area_part f s 0
     unfolding area_part
     part-3 j k = rw (← e, g, ← i, j) k
 
 -- `parse_reloc_line`
-module _ (f : Form) (s : List ℕ) {a : Num} (e : told a ≡ area_part f s 0) where
-  pub relocation-1 : {r p : ℕ} → a ≡ No r p → (ms es xs : List ℕ) → Relocations (relocation_line f s 0) (NoRelocation r p) ms es xs ms es xs
+module _ (f : Form) (s : List ℕ) {a : Result (Read ℕ) Halt} (e : told a ≡ area_part f s 0) where
+  pub relocation-1 : {h : Halt} → a ≡ Err h → (ms es xs : List ℕ) → Relocations (relocation_line f s 0) (Err h) ms es xs ms es xs
   unfolding relocation_line
   relocation-1 g ms es xs = record { answered = rw (← e, g); stored = rw (← e, g) (record { of-modes = refl; of-entries = refl; of-indexes = refl }) }
 
-  pub relocation-2 : {v p : ℕ} → a ≡ Is v p → {n q : ℕ} {ms es xs ms' es' xs' : List ℕ} → FragmentsRead f.radix f.big s p (record { count = n; end = q }) ms es xs ms' es' xs'
-      → {u : ℕ} → u ≡ past is_blank s q → Relocations (relocation_line f s 0) (Relocation v n u) ms es xs ms' es' xs'
+  pub relocation-2 : {r : Read ℕ} → a ≡ Ok r → {n q : ℕ} {ms es xs ms' es' xs' : List ℕ} → FragmentsRead f.radix f.big s r.next (record { count = n; end = q }) ms es xs ms' es' xs'
+      → {u : ℕ} → u ≡ past is_blank s q → Relocations (relocation_line f s 0) (Ok (record { area = r.value; count = n; used = u })) ms es xs ms' es' xs'
   unfolding relocation_line
   relocation-2 g i j = record { answered = rw (j, i.ran.counted, i.ran.reached, ← e, g); stored = rw (← e, g) i.stored }
 

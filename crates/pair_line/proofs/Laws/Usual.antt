@@ -1,25 +1,25 @@
 -- The usual forms of what T and R lines begin with: what the definition reads where they stand.
 -- Assumes nothing.
 use Prim.Native.Nat.{ℕ, ◌<◌, ◌≤◌}
-use mathlib.Core.Path.{◌≡◌, refl, sym}
-use mathlib.Core.Bool.{Bool, true, false, false≢true}
+use mathlib.Core.Path.{◌≡◌, refl, sym, ◌∙◌}
+use mathlib.Core.Bool.{Bool, true, false, false≢true, ◌&&◌}
 use mathlib.Core.List.{List, [], ◌∷◌}
 use native.Mathlib.Omega.{arith}
 use lib.ListN.{length, get_or}
-use lib.Dec.{ltb}
+use lib.Dec.{eqb, ltb}
 use borrow.Author.Rules.{rules}
 use borrow.Author.Tests.{ltb-true}
+use Rattle.std.specs.Prelude.{Ok}
 use Rattle.format.specs.Got.{is}
 use Rattle.format.specs.Entries.{lead}
 use Rattle.format.specs.Pairs.{zero_index}
 use Rattle.scan.proofs.Laws.Kinds.{one-space}
 use Rattle.scan.proofs.Laws.Words.{word-start, word_more}
-use Rattle.numbers.specs.declared.Num.TheVariants.{Is}
 use Rattle.joined_bytes.specs.Steps.{join_step}
 use Rattle.joined_bytes.proofs.Laws.Joined.{index_is}
 use Rattle.joined_bytes.proofs.Laws.Joins.{two-zeros, joins-two}
+use Rattle.empty_marks.specs.Marks.{zero_lead}
 use Rattle.fields.specs.Due.{Due}
-use Rattle.fields.specs.declared.Place.TheVariants.{At}
 use Rattle.fields.proofs.Laws.Fields.{one-lead, due-here, due-before}
 use Rattle.pair_line.specs.Usual.{Led, Zeroed}
 use Rattle.fragments.proofs.Laws.Fragments.{index-2}
@@ -55,7 +55,7 @@ module _ (radix : ℕ) (s : List ℕ) (x : radix ≡ 16) (n : 9 ≤ length s) wh
       let u = two-zeros (get_or s 2 0) (get_or s 3 0) c d in
       let v = two-zeros (get_or s 5 0) (get_or s 6 0) f g in
       let j = joins-two radix big s 2 x (omega arith) e {c = 32} u (omega arith) v (omega arith) (zero-joined big) (omega arith) (omega arith) (sym h) (omega arith) in
-      zero-2 radix big s 2 {i = Is 0 7} (index_is radix big s 2 (sym (j.got (omega arith)))) refl refl
+      zero-2 radix big s 2 {i = Ok (record { value = 0; next = 7 })} (index_is radix big s 2 (sym (j.got (omega arith)))) refl refl
 
   pub zeroed-is : {a b c d e f g h : Bool}
       → Due (get_or s 0 0) 82 true a → Due (get_or s 1 0) 32 a b → Due (get_or s 2 0) 48 b c → Due (get_or s 3 0) 48 c d
@@ -73,7 +73,19 @@ module _ (radix : ℕ) (s : List ℕ) (x : radix ≡ 16) (n : 9 ≤ length s) wh
       record {
         read = λ y big m.
             let k = index-2 radix big s 7 (one-space s 7 (omega arith) (due-here wh zh) (ltb-true 32 (get_or s 8 0) y)) (λ q. omega arith) refl in
-            sym (part-3 (record { radix = radix; big = big; address_length = m }) s {l = At 2} (sym l) refl {z = Is 0 7} (i big) refl k);
+            sym (part-3 (record { radix = radix; big = big; address_length = m }) s {l = Ok 2} (sym l) refl {z = Ok (record { value = 0; next = 7 })} (i big) refl k);
       }
 
-pub ruleset zeroing = (rules, zeroed-none, zeroed-is)
+due : (b d : ℕ) (before : Bool) → Due b d before (eqb b d && before)
+due b d before = record { answer = refl }
+
+-- the eight compared by `zero_lead`
+pub zeroed-lead : (radix : ℕ) (s : List ℕ) → radix ≡ 16 → 9 ≤ length s → {h : Bool}
+    → h ≡ zero_lead (get_or s 0 0) (get_or s 1 0) (get_or s 2 0) (get_or s 3 0) (get_or s 4 0) (get_or s 5 0) (get_or s 6 0) (get_or s 7 0) → h ≡ true → Zeroed radix s (ltb 32 (get_or s 8 0))
+unfolding zero_lead
+zeroed-lead radix s x n e z =
+    zeroed-is radix s x n
+    (due (get_or s 0 0) 82 true) (due (get_or s 1 0) 32 _) (due (get_or s 2 0) 48 _) (due (get_or s 3 0) 48 _) (due (get_or s 4 0) 32 _) (due (get_or s 5 0) 48 _) (due (get_or s 6 0) 48 _) (due (get_or s 7 0) 32 _)
+    (sym e ∙ z)
+
+pub ruleset zeroing = (rules, zeroed-none, zeroed-lead)

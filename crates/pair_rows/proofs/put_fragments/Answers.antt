@@ -13,12 +13,6 @@ overflow_add-at c = search columning
 pub put_fragment-requires : goal.put_fragment-requires
 put_fragment-requires c = search columning
 
-pub overflow_add-i : goal.overflow_add-i
-overflow_add-i c = search columning
-
-pub loop-i-smaller : goal.loop-i-smaller
-loop-i-smaller c = search columning
-
 pub loop-i-preserved : goal.loop-i-preserved
 loop-i-preserved c = search columning
 

@@ -1,14 +1,11 @@
-use Rattle.pairs_answer.proofs.Laws.{unlaying}
+use borrow.Author.Rules.{rules}
+use Rattle.pairs_answer.specs.Told.{unlaid}
 use Rattle.pairs_answer.proofs.before_laying.Goals as goal
 
-pub enum_known-gate : goal.enum_known-gate
-enum_known-gate c = search unlaying
+pub returns-in_err-gate : goal.returns-in_err-gate
+unfolding unlaid
+returns-in_err-gate c = search rules
 
-pub enum_told-1 : goal.enum_told-1
-enum_told-1 c = search unlaying
-
-pub returns-in-Shut : goal.returns-in-Shut
-returns-in-Shut c = search unlaying
-
-pub returns-in-Open : goal.returns-in-Open
-returns-in-Open c = search unlaying
+pub returns : goal.returns
+unfolding unlaid
+returns c = search rules

@@ -1,9 +1,5 @@
 use Rattle.position_changes.proofs.Cells.{PositionsGo}
-use Prim.Native.Nat.{◌-◌}
 use Rattle.position_changes.proofs.walk.Given as goal
 
 abbrev pub invariant-loop-i : goal.invariant-loop-i
 invariant-loop-i l = PositionsGo l.v l.m l.w l.k l.id l.writing l.initial.list l.n l.end l.list l.count l.i
-
-abbrev pub decreases-loop-i : goal.decreases-loop-i
-decreases-loop-i l = l.end - l.i

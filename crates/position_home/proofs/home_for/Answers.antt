@@ -1,9 +1,6 @@
 use Rattle.position_home.proofs.Laws.{within}
 use Rattle.position_home.proofs.home_for.Goals as goal
 
-pub home_with-h-requires : goal.home_with-h-requires
-home_with-h-requires c = search within
-
 pub returns-then-h-position : goal.returns-then-h-position
 returns-then-h-position c = search within
 

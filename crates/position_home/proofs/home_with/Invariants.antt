@@ -1,9 +1,5 @@
 use Rattle.position_home.proofs.Laws.{Homing}
-use Prim.Native.Nat.{◌-◌}
 use Rattle.position_home.proofs.home_with.Given as goal
 
 abbrev pub invariant-loop-i : goal.invariant-loop-i
 invariant-loop-i l = Homing l.areas l.n l.id l.i
-
-abbrev pub decreases-loop-i : goal.decreases-loop-i
-decreases-loop-i l = l.n - l.i

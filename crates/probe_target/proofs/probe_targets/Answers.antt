@@ -16,12 +16,6 @@ row_target-value-requires c = search rows
 pub put-requires : goal.put-requires
 put-requires c = search rows
 
-pub overflow_add-i : goal.overflow_add-i
-overflow_add-i c = search rows
-
-pub loop-i-smaller : goal.loop-i-smaller
-loop-i-smaller c = search rows
-
 pub loop-i-preserved : goal.loop-i-preserved
 loop-i-preserved c = search rows
 

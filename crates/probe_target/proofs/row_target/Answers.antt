@@ -37,17 +37,8 @@ slice_bounds-target_in-end c = search rows
 pub target_in-answer-requires : goal.target_in-answer-requires
 target_in-answer-requires c = search rows
 
-pub enum_known-answer : goal.enum_known-answer
-enum_known-answer c = search rows
+pub returns-in-Ok : goal.returns-in-Ok
+returns-in-Ok c = search rows
 
-pub enum_known-answer-in-Refused-1 : goal.enum_known-answer-in-Refused-1
-enum_known-answer-in-Refused-1 c = search rows
-
-pub overflow_cast-result : goal.overflow_cast-result
-overflow_cast-result c = search rows
-
-pub returns-in-At : goal.returns-in-At
-returns-in-At c = search rows
-
-pub returns-in-Refused : goal.returns-in-Refused
-returns-in-Refused c = search rows
+pub returns-in-Err : goal.returns-in-Err
+returns-in-Err c = search rows

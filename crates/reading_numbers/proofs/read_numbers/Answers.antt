@@ -1,20 +1,14 @@
 use Rattle.reading_numbers.proofs.Laws.{numbers}
 use Rattle.reading_numbers.proofs.read_numbers.Goals as goal
 
-pub enum_known-answer : goal.enum_known-answer
-enum_known-answer c = search numbers
-
 pub refused-requires : goal.refused-requires
 refused-requires c = search numbers
-
-pub enum_known-answer-in-Accepted-1 : goal.enum_known-answer-in-Accepted-1
-enum_known-answer-in-Accepted-1 c = search numbers
 
 pub accepted-requires : goal.accepted-requires
 accepted-requires c = search numbers
 
-pub returns-in-Refusal : goal.returns-in-Refusal
-returns-in-Refusal c = search numbers
+pub returns-in-Err : goal.returns-in-Err
+returns-in-Err c = search numbers
 
-pub returns-in-Accepted : goal.returns-in-Accepted
-returns-in-Accepted c = search numbers
+pub returns-in-Ok : goal.returns-in-Ok
+returns-in-Ok c = search numbers

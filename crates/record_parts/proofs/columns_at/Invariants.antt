@@ -1,9 +1,5 @@
 use Rattle.record_parts.proofs.Laws.{Columning}
-use Prim.Native.Nat.{◌-◌}
 use Rattle.record_parts.proofs.columns_at.Given as goal
 
 abbrev pub invariant-loop-i : goal.invariant-loop-i
 invariant-loop-i l = Columning l.rows l.p l.n l.k l.initial.ms l.initial.es l.initial.xs l.ms l.es l.xs l.q l.i
-
-abbrev pub decreases-loop-i : goal.decreases-loop-i
-decreases-loop-i l = l.k - l.i

@@ -10,12 +10,6 @@ returns-then-not-has_room c = search reading-any-pairs
 pub admit_any-gate-requires : goal.admit_any-gate-requires
 admit_any-gate-requires c = search reading-any-pairs
 
-pub enum_told-1 : goal.enum_told-1
-enum_told-1 c = search reading-any-pairs
-
-pub enum_told-in_default : goal.enum_told-in_default
-enum_told-in_default c = search reading-any-pairs
-
 pub before_laying-requires : goal.before_laying-requires
 before_laying-requires c = search reading-any-pairs
 

@@ -10,11 +10,11 @@ slice_bounds-put_bytes-end c = search modes
 pub put_bytes-requires : goal.put_bytes-requires
 put_bytes-requires c = search modes
 
-pub shape_of-out-then-k-lt240 : goal.shape_of-out-then-k-lt240
-shape_of-out-then-k-lt240 c = search modes
+pub shape_of-out-then-k-lt-FIRST_LONG : goal.shape_of-out-then-k-lt-FIRST_LONG
+shape_of-out-then-k-lt-FIRST_LONG c = search modes
 
-pub returns-then-k-lt240 : goal.returns-then-k-lt240
-returns-then-k-lt240 c = search modes
+pub returns-then-k-lt-FIRST_LONG : goal.returns-then-k-lt-FIRST_LONG
+returns-then-k-lt-FIRST_LONG c = search modes
 
 pub overflow_add-k : goal.overflow_add-k
 overflow_add-k c = search modes

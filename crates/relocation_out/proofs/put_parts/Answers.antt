@@ -10,12 +10,6 @@ overflow_add-f c = search looping
 pub put_row-p-requires : goal.put_row-p-requires
 put_row-p-requires c = search looping
 
-pub overflow_add-i : goal.overflow_add-i
-overflow_add-i c = search looping
-
-pub loop-i-smaller : goal.loop-i-smaller
-loop-i-smaller c = search looping
-
 pub loop-i-preserved : goal.loop-i-preserved
 loop-i-preserved c = search looping
 

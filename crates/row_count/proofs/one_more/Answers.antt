@@ -7,8 +7,5 @@ returns-then-n-i c = search counting
 pub returns-then-k-ge1024 : goal.returns-then-k-ge1024
 returns-then-k-ge1024 c = search counting
 
-pub overflow_add-result : goal.overflow_add-result
-overflow_add-result c = search counting
-
 pub returns : goal.returns
 returns c = search counting

@@ -1,6 +1,6 @@
 -- Kinds of bytes, and the place behind a run of one kind.
 -- Assumes nothing.
-use Prim.Native.Nat.{ℕ, ◌+◌, ◌<◌, ◌≤◌}
+use Prim.Native.Nat.{ℕ, ◌+◌, ◌<◌, ◌≤◌, max}
 use mathlib.Core.Path.{◌≡◌, refl, ap, sym, ◌∙◌}
 use mathlib.Core.Bool.{Bool, true, false, not}
 use mathlib.Core.List.{List, ◌∷◌}
@@ -15,6 +15,7 @@ use borrow.Author.Tests.{eq-eqb, ne_eqb}
 use Rattle.format.specs.Lists.{run}
 use Rattle.format.specs.Bytes.{is_blank, is_cr_or_lf, is_white, is_name_byte}
 use Rattle.format.specs.Number.{past}
+use Rattle.scan.proofs.Laws.Tests.{by_order}
 use Rattle.scan.specs.Kinds.{kind_of}
 use Rattle.scan.specs.declared.Kind.{Kind}
 
@@ -86,7 +87,13 @@ module _ {p : ℕ → Bool} {s : List ℕ} {at i : ℕ} (w : Spans p s at i) whe
     unfolding past run
     span-stop b = rw (w.whole, drop-cons s i 0 h, sym a ∙ b) (sym (add-zero i))
 
-pub ruleset spans = (rules, span-start, span_more, span-stop, span-end)
+-- past the last place inside, or where the run began past it
+pub span-max : (p : ℕ → Bool) (s : List ℕ) (at i : ℕ) {m : ℕ} → m ≡ max at (length s) → (at ≤ length s → i ≤ length s) → length s ≤ i → Spans p s at i → m ≡ past p s at
+span-max p s at i {m} e f h w = by_order at (length s)
+    (λ k. let j : m ≡ i = omega (arith, f (omega arith)) in j ∙ span-end w h)
+    (λ k. let j : m ≡ at = omega arith in j ∙ span-end (span-start p s at) k)
+
+pub ruleset spans = (rules, span-start, span_more, span-stop, span-end, span-max)
 
 -- what is above space is no blank
 pub no-blank : (b : ℕ) → 32 < b → false ≡ is_blank b

@@ -1,10 +1,6 @@
 use Rattle.symbol_changes.proofs.Names.{Gathering}
 use Rattle.symbol_changes.specs.Here.{new_here}
-use Prim.Native.Nat.{◌-◌}
 use Rattle.symbol_changes.proofs.new_symbols.Given as goal
 
 abbrev pub invariant-loop-i : goal.invariant-loop-i
-invariant-loop-i l = Gathering (new_here l.t l.ys l.m l.s l.xs l.n) l.m l.writing l.initial.list l.first l.list l.count l.i
-
-abbrev pub decreases-loop-i : goal.decreases-loop-i
-decreases-loop-i l = l.m - l.i
+invariant-loop-i l = Gathering (new_here l.newer.text.now l.newer.symbols.now l.newer.symbol_count l.older.text.now l.older.symbols.now l.older.symbol_count) l.newer.symbol_count l.writing l.initial.list l.first l.list l.count l.i

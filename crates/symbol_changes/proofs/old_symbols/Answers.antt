@@ -7,12 +7,6 @@ loop-i-init c = search gathers
 pub old_symbol-count-requires : goal.old_symbol-count-requires
 old_symbol-count-requires c = search gathers
 
-pub overflow_add-i : goal.overflow_add-i
-overflow_add-i c = search gathers
-
-pub loop-i-smaller : goal.loop-i-smaller
-loop-i-smaller c = search gathers
-
 pub loop-i-preserved : goal.loop-i-preserved
 loop-i-preserved c = search gathers
 

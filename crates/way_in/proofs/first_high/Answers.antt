@@ -4,8 +4,8 @@ use Rattle.way_in.proofs.first_high.Goals as goal
 pub highest-requires : goal.highest-requires
 highest-requires c = search highs
 
-pub returns-then-highest-lt128 : goal.returns-then-highest-lt128
-returns-then-highest-lt128 c = search highs
+pub returns-then-highest-lt-HIGH : goal.returns-then-highest-lt-HIGH
+returns-then-highest-lt-HIGH c = search highs
 
 pub find_high-requires : goal.find_high-requires
 find_high-requires c = search highs

@@ -10,12 +10,6 @@ same_fixup-requires c = search looks
 pub returns-then-same_fixup : goal.returns-then-same_fixup
 returns-then-same_fixup c = search looks
 
-pub overflow_add-j : goal.overflow_add-j
-overflow_add-j c = search looks
-
-pub loop-j-smaller : goal.loop-j-smaller
-loop-j-smaller c = search looks
-
 pub loop-j-preserved : goal.loop-j-preserved
 loop-j-preserved c = search looks
 

@@ -10,12 +10,6 @@ at-next-requires c = search moves
 pub put_u32-requires : goal.put_u32-requires
 put_u32-requires c = search moves
 
-pub overflow_add-j : goal.overflow_add-j
-overflow_add-j c = search moves
-
-pub loop-j-smaller : goal.loop-j-smaller
-loop-j-smaller c = search moves
-
 pub loop-j-preserved : goal.loop-j-preserved
 loop-j-preserved c = search moves
 

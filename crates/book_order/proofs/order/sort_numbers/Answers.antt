@@ -13,12 +13,6 @@ loop-k-init c = search sorts
 pub put_in-requires : goal.put_in-requires
 put_in-requires c = search sorts
 
-pub overflow_add-k : goal.overflow_add-k
-overflow_add-k c = search sorts
-
-pub loop-k-smaller : goal.loop-k-smaller
-loop-k-smaller c = search sorts
-
 pub loop-k-preserved : goal.loop-k-preserved
 loop-k-preserved c = search sorts
 

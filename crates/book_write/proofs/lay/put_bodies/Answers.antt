@@ -19,12 +19,6 @@ put_nth_body-requires c = search bodies
 pub nth_end-to-requires : goal.nth_end-to-requires
 nth_end-to-requires c = search bodies
 
-pub overflow_add-i : goal.overflow_add-i
-overflow_add-i c = search bodies
-
-pub loop-i-smaller : goal.loop-i-smaller
-loop-i-smaller c = search bodies
-
 pub loop-i-preserved : goal.loop-i-preserved
 loop-i-preserved c = search bodies
 

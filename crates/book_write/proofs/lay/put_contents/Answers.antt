@@ -19,12 +19,6 @@ put_nth_row-requires c = search contents
 pub nth_end-to-requires : goal.nth_end-to-requires
 nth_end-to-requires c = search contents
 
-pub overflow_add-i : goal.overflow_add-i
-overflow_add-i c = search contents
-
-pub loop-i-smaller : goal.loop-i-smaller
-loop-i-smaller c = search contents
-
 pub loop-i-preserved : goal.loop-i-preserved
 loop-i-preserved c = search contents
 

@@ -7,11 +7,8 @@ slice_bounds-copy_u32s-end c = search puts
 pub copy_u32s-requires : goal.copy_u32s-requires
 copy_u32s-requires c = search puts
 
-pub shape_of-list-then-writing : goal.shape_of-list-then-writing
-shape_of-list-then-writing c = search puts
-
 pub returns-then-writing : goal.returns-then-writing
 returns-then-writing c = search puts
 
-pub returns : goal.returns
-returns c = search puts
+pub returns-else-writing : goal.returns-else-writing
+returns-else-writing c = search puts

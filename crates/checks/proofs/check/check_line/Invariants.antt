@@ -1,9 +1,5 @@
 use Rattle.checks.proofs.CheckLaws.{Checking}
-use Prim.Native.Nat.{◌-◌}
 use Rattle.checks.proofs.check.check_line.Given as goal
 
 abbrev pub invariant-loop-e : goal.invariant-loop-e
 invariant-loop-e l = Checking l.ms l.es l.xs l.areas l.symbols l.site l.wk l.n l.k l.e l.p
-
-abbrev pub decreases-loop-e : goal.decreases-loop-e
-decreases-loop-e l = l.n - l.e

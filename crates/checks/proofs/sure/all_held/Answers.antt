@@ -16,12 +16,6 @@ held-requires c = search holding
 pub returns-then-not-held : goal.returns-then-not-held
 returns-then-not-held c = search holding
 
-pub overflow_add-i : goal.overflow_add-i
-overflow_add-i c = search holding
-
-pub loop-i-smaller : goal.loop-i-smaller
-loop-i-smaller c = search holding
-
 pub loop-i-preserved : goal.loop-i-preserved
 loop-i-preserved c = search holding
 

@@ -1,9 +1,5 @@
 use Rattle.checks.proofs.SureLaws.{Holding}
-use Prim.Native.Nat.{◌-◌}
 use Rattle.checks.proofs.sure.all_held.Given as goal
 
 abbrev pub invariant-loop-i : goal.invariant-loop-i
 invariant-loop-i l = Holding l.ms l.xs l.n l.c l.i
-
-abbrev pub decreases-loop-i : goal.decreases-loop-i
-decreases-loop-i l = l.c - l.i

@@ -4,50 +4,44 @@ use Rattle.convert_module.proofs.whole.convert_with.Goals as goal
 pub read_any-requires : goal.read_any-requires
 read_any-requires c = search wholes
 
-pub enum_known-number : goal.enum_known-number
-enum_known-number c = search wholes
-
-pub enum_known-counts : goal.enum_known-counts
-enum_known-counts c = search wholes
-
 pub judge-requires : goal.judge-requires
-judge-requires c = convert-judged c.requires c.read_any.ensures c.in-Accepted.is
+judge-requires c = convert-judged c.requires c.read_any.ensures c.in-Ok.is
 
-pub shape_of-areas-in-Refusal : goal.shape_of-areas-in-Refusal
-shape_of-areas-in-Refusal c = search wholes
+pub shape_of-areas-in-Err : goal.shape_of-areas-in-Err
+shape_of-areas-in-Err c = search wholes
 
-pub shape_of-symbols-in-Refusal : goal.shape_of-symbols-in-Refusal
-shape_of-symbols-in-Refusal c = search wholes
+pub shape_of-symbols-in-Err : goal.shape_of-symbols-in-Err
+shape_of-symbols-in-Err c = search wholes
 
-pub shape_of-values-in-Refusal : goal.shape_of-values-in-Refusal
-shape_of-values-in-Refusal c = search wholes
+pub shape_of-values-in-Err : goal.shape_of-values-in-Err
+shape_of-values-in-Err c = search wholes
 
-pub shape_of-masks-in-Refusal : goal.shape_of-masks-in-Refusal
-shape_of-masks-in-Refusal c = search wholes
+pub shape_of-masks-in-Err : goal.shape_of-masks-in-Err
+shape_of-masks-in-Err c = search wholes
 
-pub shape_of-fixups-in-Refusal : goal.shape_of-fixups-in-Refusal
-shape_of-fixups-in-Refusal c = search wholes
+pub shape_of-fixups-in-Err : goal.shape_of-fixups-in-Err
+shape_of-fixups-in-Err c = search wholes
 
-pub returns-in-Refusal : goal.returns-in-Refusal
-returns-in-Refusal c = search wholes
+pub returns-in-Err : goal.returns-in-Err
+returns-in-Err c = search wholes
 
-pub shape_of-areas-in-Accepted : goal.shape_of-areas-in-Accepted
-shape_of-areas-in-Accepted c = search wholes
+pub shape_of-areas-in-Ok : goal.shape_of-areas-in-Ok
+shape_of-areas-in-Ok c = search wholes
 
-pub shape_of-symbols-in-Accepted : goal.shape_of-symbols-in-Accepted
-shape_of-symbols-in-Accepted c = search wholes
+pub shape_of-symbols-in-Ok : goal.shape_of-symbols-in-Ok
+shape_of-symbols-in-Ok c = search wholes
 
-pub shape_of-values-in-Accepted : goal.shape_of-values-in-Accepted
-shape_of-values-in-Accepted c = search wholes
+pub shape_of-values-in-Ok : goal.shape_of-values-in-Ok
+shape_of-values-in-Ok c = search wholes
 
-pub shape_of-masks-in-Accepted : goal.shape_of-masks-in-Accepted
-shape_of-masks-in-Accepted c = search wholes
+pub shape_of-masks-in-Ok : goal.shape_of-masks-in-Ok
+shape_of-masks-in-Ok c = search wholes
 
-pub shape_of-fixups-in-Accepted : goal.shape_of-fixups-in-Accepted
-shape_of-fixups-in-Accepted c = search wholes
+pub shape_of-fixups-in-Ok : goal.shape_of-fixups-in-Ok
+shape_of-fixups-in-Ok c = search wholes
 
 pub shape_of-out : goal.shape_of-out
 shape_of-out c = search wholes
 
-pub returns-in-Accepted : goal.returns-in-Accepted
-returns-in-Accepted c = search wholes
+pub returns-in-Ok : goal.returns-in-Ok
+returns-in-Ok c = search wholes

@@ -10,12 +10,6 @@ overflow_mul-k c = search rows
 pub mark_row-requires : goal.mark_row-requires
 mark_row-requires c = search rows
 
-pub overflow_add-k : goal.overflow_add-k
-overflow_add-k c = search rows
-
-pub loop-k-smaller : goal.loop-k-smaller
-loop-k-smaller c = search rows
-
 pub loop-k-preserved : goal.loop-k-preserved
 loop-k-preserved c = search rows
 

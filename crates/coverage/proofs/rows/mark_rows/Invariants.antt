@@ -1,9 +1,5 @@
 use Rattle.coverage.proofs.RowLaws.{Rowing}
-use Prim.Native.Nat.{◌-◌}
 use Rattle.coverage.proofs.rows.mark_rows.Given as goal
 
 abbrev pub invariant-loop-k : goal.invariant-loop-k
 invariant-loop-k l = Rowing l.areas l.n l.pairs l.content l.fragments l.many l.big l.width l.initial.map l.map l.k
-
-abbrev pub decreases-loop-k : goal.decreases-loop-k
-decreases-loop-k l = l.many - l.k

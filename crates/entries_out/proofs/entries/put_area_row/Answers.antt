@@ -7,12 +7,6 @@ area_cell-requires c = search area
 pub area_cell-requires-2 : goal.area_cell-requires-2
 area_cell-requires-2 c = search area
 
-pub area_cell-requires-3 : goal.area_cell-requires-3
-area_cell-requires-3 c = search area
-
-pub area_cell-requires-4 : goal.area_cell-requires-4
-area_cell-requires-4 c = search area
-
 pub area_name-requires : goal.area_name-requires
 area_name-requires c = search area
 

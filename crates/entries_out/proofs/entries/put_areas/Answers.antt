@@ -7,12 +7,6 @@ loop-i-init c = search areas
 pub put_area_row-p-requires : goal.put_area_row-p-requires
 put_area_row-p-requires c = search areas
 
-pub overflow_add-i : goal.overflow_add-i
-overflow_add-i c = search areas
-
-pub loop-i-smaller : goal.loop-i-smaller
-loop-i-smaller c = search areas
-
 pub loop-i-preserved : goal.loop-i-preserved
 loop-i-preserved c = search areas
 

@@ -16,12 +16,6 @@ put_areas-p-requires c = search entries
 pub put_symbol_row-p-requires : goal.put_symbol_row-p-requires
 put_symbol_row-p-requires c = search entries
 
-pub overflow_add-j : goal.overflow_add-j
-overflow_add-j c = search entries
-
-pub loop-j-smaller : goal.loop-j-smaller
-loop-j-smaller c = search entries
-
 pub loop-j-preserved : goal.loop-j-preserved
 loop-j-preserved c = search entries
 

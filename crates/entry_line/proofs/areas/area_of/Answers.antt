@@ -1,41 +1,16 @@
-use Rattle.entry_line.proofs.Laws.Areas.{areas}
+use borrow.Author.Rules.{rules}
+use Rattle.header.specs.Told.{form_of}
+use Rattle.entry_line.specs.Told.{name_of}
+use Rattle.entry_line.proofs.Laws.Areas.{areas, area-2, area-3}
 use Rattle.entry_line.proofs.areas.area_of.Goals as goal
 
-pub size_field-z-requires : goal.size_field-z-requires
-size_field-z-requires c = search areas
+pub returns-in_err-size : goal.returns-in_err-size
+returns-in_err-size c = search areas
 
-pub enum_known-z : goal.enum_known-z
-enum_known-z c = search areas
-
-pub enum_told-1 : goal.enum_told-1
-enum_told-1 c = search areas
-
-pub halted-requires : goal.halted-requires
-halted-requires c = search areas
-
-pub returns-in_default : goal.returns-in_default
-returns-in_default c = search areas
-
-pub flags_field-g-requires : goal.flags_field-g-requires
-flags_field-g-requires c = search areas
-
-pub enum_known-g : goal.enum_known-g
-enum_known-g c = search areas
-
-pub enum_told-in_default-g : goal.enum_told-in_default-g
-enum_told-in_default-g c = search areas
-
-pub halted-requires-in_default-g : goal.halted-requires-in_default-g
-halted-requires-in_default-g c = search areas
-
-pub returns-in_default-g : goal.returns-in_default-g
-returns-in_default-g c = search areas
-
-pub addr_at-given-requires : goal.addr_at-given-requires
-addr_at-given-requires c = search areas
-
-pub past_kind-requires : goal.past_kind-requires
-past_kind-requires c = search areas
+pub returns-in_err-flags : goal.returns-in_err-flags
+returns-in_err-flags c =
+    let e = area-2 (form_of c.args.form) (name_of c.args.name.at c.args.name.len) c.args.t.now c.args.at c.size_field.ensures c.in_ok-size.was c.flags_field.ensures c.in_err-flags.was in
+    search (rules, e)
 
 pub returns : goal.returns
-returns c = search areas
+returns c = area-3 _ _ _ _ c.size_field.ensures c.in_ok-size.was c.flags_field.ensures c.in_ok-flags.was c.addr_at-addr.ensures c.past_kind.ensures

@@ -25,12 +25,6 @@ is_beside-requires c = search beside-rows
 pub returns-then-not-is_beside : goal.returns-then-not-is_beside
 returns-then-not-is_beside c = search beside-rows
 
-pub overflow_add-i : goal.overflow_add-i
-overflow_add-i c = search beside-rows
-
-pub loop-i-smaller : goal.loop-i-smaller
-loop-i-smaller c = search beside-rows
-
 pub loop-i-preserved : goal.loop-i-preserved
 loop-i-preserved c = search beside-rows
 

@@ -10,12 +10,6 @@ fit_body-requires c = search bodies
 pub returns-then-not-fit_body : goal.returns-then-not-fit_body
 returns-then-not-fit_body c = search bodies
 
-pub overflow_add-k : goal.overflow_add-k
-overflow_add-k c = search bodies
-
-pub loop-k-smaller : goal.loop-k-smaller
-loop-k-smaller c = search bodies
-
 pub loop-k-preserved : goal.loop-k-preserved
 loop-k-preserved c = search bodies
 

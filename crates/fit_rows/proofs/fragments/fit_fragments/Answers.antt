@@ -43,12 +43,6 @@ beside_all-requires c = search fitting
 pub returns-then-not-beside_all : goal.returns-then-not-beside_all
 returns-then-not-beside_all c = search fitting
 
-pub overflow_add-i : goal.overflow_add-i
-overflow_add-i c = search fitting
-
-pub loop-i-smaller : goal.loop-i-smaller
-loop-i-smaller c = search fitting
-
 pub loop-i-preserved : goal.loop-i-preserved
 loop-i-preserved c = search fitting
 

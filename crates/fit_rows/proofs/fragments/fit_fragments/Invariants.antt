@@ -1,9 +1,5 @@
 use Rattle.fit_rows.proofs.Laws.Fragments.{Fitting}
-use Prim.Native.Nat.{◌-◌}
 use Rattle.fit_rows.proofs.fragments.fit_fragments.Given as goal
 
 abbrev pub invariant-loop-i : goal.invariant-loop-i
 invariant-loop-i l = Fitting l.rows l.k l.n l.width l.i
-
-abbrev pub decreases-loop-i : goal.decreases-loop-i
-decreases-loop-i l = l.n - l.i

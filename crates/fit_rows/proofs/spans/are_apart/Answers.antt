@@ -16,12 +16,6 @@ is_apart-requires c = search parting
 pub returns-then-not-is_apart : goal.returns-then-not-is_apart
 returns-then-not-is_apart c = search parting
 
-pub overflow_add-k : goal.overflow_add-k
-overflow_add-k c = search parting
-
-pub loop-k-smaller : goal.loop-k-smaller
-loop-k-smaller c = search parting
-
 pub loop-k-preserved : goal.loop-k-preserved
 loop-k-preserved c = search parting
 

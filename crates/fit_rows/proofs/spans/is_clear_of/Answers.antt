@@ -13,12 +13,6 @@ meets-requires c = search clear-rows
 pub returns-then-meets : goal.returns-then-meets
 returns-then-meets c = search clear-rows
 
-pub overflow_add-i : goal.overflow_add-i
-overflow_add-i c = search clear-rows
-
-pub loop-i-smaller : goal.loop-i-smaller
-loop-i-smaller c = search clear-rows
-
 pub loop-i-preserved : goal.loop-i-preserved
 loop-i-preserved c = search clear-rows
 

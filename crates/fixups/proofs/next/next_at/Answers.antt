@@ -7,12 +7,6 @@ loop-i-init c = search seeking
 pub nearer_at-r-requires : goal.nearer_at-r-requires
 nearer_at-r-requires c = search seeking
 
-pub overflow_add-i : goal.overflow_add-i
-overflow_add-i c = search seeking
-
-pub loop-i-smaller : goal.loop-i-smaller
-loop-i-smaller c = search seeking
-
 pub loop-i-preserved : goal.loop-i-preserved
 loop-i-preserved c = search seeking
 

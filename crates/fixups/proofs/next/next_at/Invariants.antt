@@ -1,9 +1,5 @@
 use Rattle.fixups.proofs.NextLaws.{Seeking}
-use Prim.Native.Nat.{◌-◌}
 use Rattle.fixups.proofs.next.next_at.Given as goal
 
 abbrev pub invariant-loop-i : goal.invariant-loop-i
 invariant-loop-i l = Seeking l.ms l.es l.c l.e l.r l.i
-
-abbrev pub decreases-loop-i : goal.decreases-loop-i
-decreases-loop-i l = l.c - l.i

@@ -1,26 +1,14 @@
-use Rattle.fixups.proofs.AddLaws.{rowing}
+use Rattle.fixups.proofs.AddLaws.{row-refused, row_fits, row-added}
+use Rattle.std.proofs.lemmas.Result.{err_from_is_err_and}
 use Rattle.fixups.proofs.row.write_row.Goals as goal
 
-pub one_more-r-requires : goal.one_more-r-requires
-one_more-r-requires c = search rowing
-
-pub enum_known-r : goal.enum_known-r
-enum_known-r c = search rowing
-
-pub enum_told-1 : goal.enum_told-1
-enum_told-1 c = search rowing
-
-pub returns-in_default : goal.returns-in_default
-returns-in_default c = search rowing
+pub returns-in_err-x : goal.returns-in_err-x
+returns-in_err-x c =
+    let p = err_from_is_err_and c.from_residual.result c.from_residual.ensures.1 in
+    rw (p.1, p.2) (row-refused _ _ _ _ _ _ _ _ c.one_more.ensures c.requires.0 c.in_err-x.was)
 
 pub overflow_mul-k : goal.overflow_mul-k
-overflow_mul-k c = search rowing
-
-pub put_row-requires : goal.put_row-requires
-put_row-requires c = search rowing
-
-pub shape_of-rows : goal.shape_of-rows
-shape_of-rows c = search rowing
+overflow_mul-k c = row_fits c.args.site c.args.ms.now c.args.ns.now c.args.t c.args.i c.args.p c.args.k c.args.rows.now c.one_more.ensures c.in_ok-x.was
 
 pub returns : goal.returns
-returns c = search rowing
+returns c = row-added _ _ _ _ _ _ _ _ c.one_more.ensures c.in_ok-x.was c.requires.1 c.put_row.ensures

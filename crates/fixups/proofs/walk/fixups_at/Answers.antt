@@ -1,38 +1,20 @@
-use Rattle.fixups.proofs.EntryLaws.{entries}
+use Rattle.fixups.proofs.EntryLaws.{entries, fix-stop, fix-more}
+use Rattle.std.proofs.lemmas.Result.{err_from_is_err_and}
 use Rattle.fixups.proofs.walk.fixups_at.Goals as goal
 
 pub loop-i-init : goal.loop-i-init
 loop-i-init c = search entries
 
-pub refers_at-to-requires : goal.refers_at-to-requires
-refers_at-to-requires c = search entries
+pub add-requires : goal.add-requires
+add-requires c = search entries
 
-pub add-r-requires : goal.add-r-requires
-add-r-requires c = search entries
-
-pub enum_known-r : goal.enum_known-r
-enum_known-r c = search entries
-
-pub enum_told-1 : goal.enum_told-1
-enum_told-1 c = search entries
-
-pub shape_of-rows-in_default : goal.shape_of-rows-in_default
-shape_of-rows-in_default c = search entries
-
-pub returns-in_default : goal.returns-in_default
-returns-in_default c = search entries
-
-pub overflow_add-i : goal.overflow_add-i
-overflow_add-i c = search entries
-
-pub loop-i-smaller : goal.loop-i-smaller
-loop-i-smaller c = search entries
+pub returns-in_err-j : goal.returns-in_err-j
+returns-in_err-j c =
+    let p = err_from_is_err_and c.from_residual.result c.from_residual.ensures.1 in
+    rw (p.1, p.2) (fix-stop c.loop-i.invariant c.loop-i-test.true _ c.refers_at-to.ensures c.add.ensures c.in_err-j.was)
 
 pub loop-i-preserved : goal.loop-i-preserved
-loop-i-preserved c = search entries
-
-pub shape_of-rows : goal.shape_of-rows
-shape_of-rows c = search entries
+loop-i-preserved c = fix-more c.loop-i.invariant c.loop-i-test.true _ c.refers_at-to.ensures c.add.ensures c.in_ok-j.was (search entries)
 
 pub returns : goal.returns
 returns c = search entries

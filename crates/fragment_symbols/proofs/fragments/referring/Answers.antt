@@ -10,12 +10,6 @@ refers_to-requires c = search looks
 pub returns-then-refers_to : goal.returns-then-refers_to
 returns-then-refers_to c = search looks
 
-pub overflow_add-i : goal.overflow_add-i
-overflow_add-i c = search looks
-
-pub loop-i-smaller : goal.loop-i-smaller
-loop-i-smaller c = search looks
-
 pub loop-i-preserved : goal.loop-i-preserved
 loop-i-preserved c = search looks
 

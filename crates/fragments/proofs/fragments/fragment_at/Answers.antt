@@ -1,56 +1,23 @@
-use Rattle.fragments.proofs.Laws.Fragments.{fragmenting}
+use Rattle.fragments.proofs.Laws.Fragments.{fragmenting, fragment-2, fragment-3, fragment-4, fragment-5}
 use Rattle.fragments.proofs.fragments.fragment_at.Goals as goal
-
-pub past_kind-a-requires : goal.past_kind-a-requires
-past_kind-a-requires c = search fragmenting
 
 pub returns-then-a-at : goal.returns-then-a-at
 returns-then-a-at c = search fragmenting
 
-pub parse_extended_mode-m-requires : goal.parse_extended_mode-m-requires
-parse_extended_mode-m-requires c = search fragmenting
+pub returns-in_err-mode : goal.returns-in_err-mode
+returns-in_err-mode c =
+    let e = fragment-2 _ c.args.big _ _ c.past_kind-a.ensures c.if-a-at.false c.parse_extended_mode.ensures c.in_err-mode.was in
+    search fragmenting
 
-pub enum_known-m : goal.enum_known-m
-enum_known-m c = search fragmenting
+pub returns-in_err-entry : goal.returns-in_err-entry
+returns-in_err-entry c =
+    let e = fragment-3 _ c.args.big _ _ c.past_kind-a.ensures c.if-a-at.false c.parse_extended_mode.ensures c.in_ok-mode.was c.next_byte.ensures c.in_err-entry.was in
+    search fragmenting
 
-pub enum_told-1 : goal.enum_told-1
-enum_told-1 c = search fragmenting
-
-pub no_fragment-requires : goal.no_fragment-requires
-no_fragment-requires c = search fragmenting
-
-pub returns-in_default : goal.returns-in_default
-returns-in_default c = search fragmenting
-
-pub next_byte-e-requires : goal.next_byte-e-requires
-next_byte-e-requires c = search fragmenting
-
-pub enum_known-e : goal.enum_known-e
-enum_known-e c = search fragmenting
-
-pub enum_told-in_default-e : goal.enum_told-in_default-e
-enum_told-in_default-e c = search fragmenting
-
-pub no_fragment-requires-in_default-e : goal.no_fragment-requires-in_default-e
-no_fragment-requires-in_default-e c = search fragmenting
-
-pub returns-in_default-e : goal.returns-in_default-e
-returns-in_default-e c = search fragmenting
-
-pub next_index-i-requires : goal.next_index-i-requires
-next_index-i-requires c = search fragmenting
-
-pub enum_known-i : goal.enum_known-i
-enum_known-i c = search fragmenting
-
-pub enum_told-in_default-i : goal.enum_told-in_default-i
-enum_told-in_default-i c = search fragmenting
-
-pub no_fragment-requires-in_default-i : goal.no_fragment-requires-in_default-i
-no_fragment-requires-in_default-i c = search fragmenting
-
-pub returns-in_default-i : goal.returns-in_default-i
-returns-in_default-i c = search fragmenting
+pub returns-in_err-index : goal.returns-in_err-index
+returns-in_err-index c =
+    let e = fragment-4 _ c.args.big _ _ c.past_kind-a.ensures c.if-a-at.false c.parse_extended_mode.ensures c.in_ok-mode.was c.next_byte.ensures c.in_ok-entry.was c.next_index.ensures c.in_err-index.was in
+    search fragmenting
 
 pub returns : goal.returns
-returns c = search fragmenting
+returns c = fragment-5 _ _ _ _ c.past_kind-a.ensures c.if-a-at.false c.parse_extended_mode.ensures c.in_ok-mode.was c.next_byte.ensures c.in_ok-entry.was c.next_index.ensures c.in_ok-index.was

@@ -13,12 +13,6 @@ name_good-requires c = search areas
 pub returns-then-not-name_good : goal.returns-then-not-name_good
 returns-then-not-name_good c = search areas
 
-pub overflow_add-i : goal.overflow_add-i
-overflow_add-i c = search areas
-
-pub loop-i-smaller : goal.loop-i-smaller
-loop-i-smaller c = search areas
-
 pub loop-i-preserved : goal.loop-i-preserved
 loop-i-preserved c = search areas
 

@@ -22,12 +22,6 @@ name_good-requires c = search symbols
 pub returns-then-not-name_good : goal.returns-then-not-name_good
 returns-then-not-name_good c = search symbols
 
-pub overflow_add-j : goal.overflow_add-j
-overflow_add-j c = search symbols
-
-pub loop-j-smaller : goal.loop-j-smaller
-loop-j-smaller c = search symbols
-
 pub loop-j-preserved : goal.loop-j-preserved
 loop-j-preserved c = search symbols
 

@@ -1,8 +1,8 @@
 use Rattle.good_names.proofs.Laws.{bytes}
 use Rattle.good_names.proofs.names.byte_good.Goals as goal
 
-pub returns-then-b-ge128 : goal.returns-then-b-ge128
-returns-then-b-ge128 c = search bytes
+pub returns-then-b-ge-FIRST_HIGH : goal.returns-then-b-ge-FIRST_HIGH
+returns-then-b-ge-FIRST_HIGH c = search bytes
 
 pub returns-then-b-eq32 : goal.returns-then-b-eq32
 returns-then-b-eq32 c = search bytes
@@ -13,8 +13,5 @@ returns-then-b-eq9 c = search bytes
 pub returns-then-b-eq13 : goal.returns-then-b-eq13
 returns-then-b-eq13 c = search bytes
 
-pub returns-then-b-eq10 : goal.returns-then-b-eq10
-returns-then-b-eq10 c = search bytes
-
-pub returns-else-b-eq10 : goal.returns-else-b-eq10
-returns-else-b-eq10 c = search bytes
+pub returns : goal.returns
+returns c = search bytes

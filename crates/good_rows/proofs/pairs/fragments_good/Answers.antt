@@ -25,12 +25,6 @@ fragment_good-requires c = search fragments
 pub returns-then-not-fragment_good : goal.returns-then-not-fragment_good
 returns-then-not-fragment_good c = search fragments
 
-pub overflow_add-i : goal.overflow_add-i
-overflow_add-i c = search fragments
-
-pub loop-i-smaller : goal.loop-i-smaller
-loop-i-smaller c = search fragments
-
 pub loop-i-preserved : goal.loop-i-preserved
 loop-i-preserved c = search fragments
 

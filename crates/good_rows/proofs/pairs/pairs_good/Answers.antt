@@ -13,12 +13,6 @@ pair_good-requires c = search pairs
 pub returns-then-not-pair_good : goal.returns-then-not-pair_good
 returns-then-not-pair_good c = search pairs
 
-pub overflow_add-i : goal.overflow_add-i
-overflow_add-i c = search pairs
-
-pub loop-i-smaller : goal.loop-i-smaller
-loop-i-smaller c = search pairs
-
 pub loop-i-preserved : goal.loop-i-preserved
 loop-i-preserved c = search pairs
 

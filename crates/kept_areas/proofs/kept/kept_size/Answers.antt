@@ -1,15 +1,6 @@
 use Rattle.kept_areas.proofs.Ranks.{keeps}
 use Rattle.kept_areas.proofs.kept.kept_size.Goals as goal
 
-pub is_code-requires : goal.is_code-requires
-is_code-requires c = search keeps
-
-pub area_size-requires : goal.area_size-requires
-area_size-requires c = search keeps
-
-pub wide-requires : goal.wide-requires
-wide-requires c = search keeps
-
 pub returns-then-is_code : goal.returns-then-is_code
 returns-then-is_code c = search keeps
 

@@ -10,12 +10,6 @@ kind-requires c = search others
 pub returns-then-kind-ne-SYMBOL_ONLY_OLD : goal.returns-then-kind-ne-SYMBOL_ONLY_OLD
 returns-then-kind-ne-SYMBOL_ONLY_OLD c = search others
 
-pub overflow_add-i : goal.overflow_add-i
-overflow_add-i c = search others
-
-pub loop-i-smaller : goal.loop-i-smaller
-loop-i-smaller c = search others
-
 pub loop-i-preserved : goal.loop-i-preserved
 loop-i-preserved c = search others
 

@@ -7,12 +7,6 @@ loop-j-init c = search marks
 pub mark_one-requires : goal.mark_one-requires
 mark_one-requires c = search marks
 
-pub overflow_add-j : goal.overflow_add-j
-overflow_add-j c = search marks
-
-pub loop-j-smaller : goal.loop-j-smaller
-loop-j-smaller c = search marks
-
 pub loop-j-preserved : goal.loop-j-preserved
 loop-j-preserved c = search marks
 

@@ -19,12 +19,6 @@ one_staying-k-requires c = search counting
 pub overflow_add-k : goal.overflow_add-k
 overflow_add-k c = search counting
 
-pub overflow_add-j : goal.overflow_add-j
-overflow_add-j c = search counting
-
-pub loop-j-smaller : goal.loop-j-smaller
-loop-j-smaller c = search counting
-
 pub loop-j-preserved : goal.loop-j-preserved
 loop-j-preserved c = search counting
 

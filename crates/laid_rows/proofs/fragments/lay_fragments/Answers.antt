@@ -10,12 +10,6 @@ overflow_add-first c = search looping
 pub lay_fragment-requires : goal.lay_fragment-requires
 lay_fragment-requires c = search looping
 
-pub overflow_add-i : goal.overflow_add-i
-overflow_add-i c = search looping
-
-pub loop-i-smaller : goal.loop-i-smaller
-loop-i-smaller c = search looping
-
 pub loop-i-preserved : goal.loop-i-preserved
 loop-i-preserved c = search looping
 

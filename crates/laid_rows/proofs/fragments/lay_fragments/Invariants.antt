@@ -1,10 +1,6 @@
 use Rattle.laid_rows.proofs.Laws.Fragments.{Laying}
 use Rattle.laid_rows.specs.Over.{around}
-use Prim.Native.Nat.{◌-◌}
 use Rattle.laid_rows.proofs.fragments.lay_fragments.Given as goal
 
 abbrev pub invariant-loop-i : goal.invariant-loop-i
 invariant-loop-i l = Laying l.initial.part l.bs l.rows l.first l.n l.big l.width (around l.areas l.symbols l.filled l.chosen l.outside) l.part l.i
-
-abbrev pub decreases-loop-i : goal.decreases-loop-i
-decreases-loop-i l = l.n - l.i

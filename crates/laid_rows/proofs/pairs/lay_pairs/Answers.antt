@@ -4,20 +4,8 @@ use Rattle.laid_rows.proofs.pairs.lay_pairs.Goals as goal
 pub loop-k-init : goal.loop-k-init
 loop-k-init c = search all-pairs
 
-pub shape_of-out-then-k-ge4096 : goal.shape_of-out-then-k-ge4096
-shape_of-out-then-k-ge4096 c = search all-pairs
-
-pub returns-then-k-ge4096 : goal.returns-then-k-ge4096
-returns-then-k-ge4096 c = search all-pairs
-
 pub lay_pair-requires : goal.lay_pair-requires
 lay_pair-requires c = search all-pairs
-
-pub overflow_add-k : goal.overflow_add-k
-overflow_add-k c = search all-pairs
-
-pub loop-k-smaller : goal.loop-k-smaller
-loop-k-smaller c = search all-pairs
 
 pub loop-k-preserved : goal.loop-k-preserved
 loop-k-preserved c = search all-pairs

@@ -1,10 +1,6 @@
 use Rattle.laid_rows.proofs.Laws.Pairs.{Going}
 use Rattle.laid_rows.specs.Over.{around}
-use Prim.Native.Nat.{◌-◌}
 use Rattle.laid_rows.proofs.pairs.lay_pairs.Given as goal
 
 abbrev pub invariant-loop-k : goal.invariant-loop-k
 invariant-loop-k l = Going l.big l.width (around l.areas l.symbols l.filled l.chosen l.outside) l.pairs l.content l.rows l.n l.initial.out l.out l.k
-
-abbrev pub decreases-loop-k : goal.decreases-loop-k
-decreases-loop-k l = l.n - l.k

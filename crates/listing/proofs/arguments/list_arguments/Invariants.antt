@@ -1,5 +1,4 @@
 -- `listing::arguments::list_arguments` is safe and ends: the arguments that are left are fewer each turn. Assumes nothing.
-use borrow.Author.Rules.{rules}
 use Prim.Native.Nat.{◌-◌}
 use Rattle.listing.proofs.arguments.list_arguments.Given as goal
 

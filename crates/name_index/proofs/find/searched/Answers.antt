@@ -4,17 +4,8 @@ use Rattle.name_index.proofs.find.searched.Goals as goal
 pub loop-j-init : goal.loop-j-init
 loop-j-init c = search searches
 
-pub named-requires : goal.named-requires
-named-requires c = search searches
-
 pub returns-then-named : goal.returns-then-named
 returns-then-named c = search searches
-
-pub overflow_add-j : goal.overflow_add-j
-overflow_add-j c = search searches
-
-pub loop-j-smaller : goal.loop-j-smaller
-loop-j-smaller c = search searches
 
 pub loop-j-preserved : goal.loop-j-preserved
 loop-j-preserved c = search searches

@@ -1,6 +1,9 @@
 use Rattle.numbers.proofs.Laws.Numbers.{digiting}
 use Rattle.numbers.proofs.numbers.any_number.Goals as goal
 
+pub returns-then-t-at : goal.returns-then-t-at
+returns-then-t-at c = search digiting
+
 pub loop-i-init : goal.loop-i-init
 loop-i-init c = search digiting
 
@@ -18,12 +21,6 @@ returns-then-base-d c = search digiting
 
 pub with_digit-v-requires : goal.with_digit-v-requires
 with_digit-v-requires c = search digiting
-
-pub overflow_add-i : goal.overflow_add-i
-overflow_add-i c = search digiting
-
-pub loop-i-smaller : goal.loop-i-smaller
-loop-i-smaller c = search digiting
 
 pub loop-i-preserved : goal.loop-i-preserved
 loop-i-preserved c = search digiting

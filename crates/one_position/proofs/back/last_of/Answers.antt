@@ -4,9 +4,6 @@ use Rattle.one_position.proofs.back.last_of.Goals as goal
 pub loop-k-init : goal.loop-k-init
 loop-k-init c = search backing
 
-pub overflow_sub-k : goal.overflow_sub-k
-overflow_sub-k c = search backing
-
 pub overflow_mul-p : goal.overflow_mul-p
 overflow_mul-p c = search backing
 
@@ -24,9 +21,6 @@ found-requires c = search backing
 
 pub returns-then-is_byte : goal.returns-then-is_byte
 returns-then-is_byte c = search backing
-
-pub loop-k-smaller : goal.loop-k-smaller
-loop-k-smaller c = search backing
 
 pub loop-k-preserved : goal.loop-k-preserved
 loop-k-preserved c = search backing

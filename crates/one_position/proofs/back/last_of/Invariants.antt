@@ -3,6 +3,3 @@ use Rattle.one_position.proofs.back.last_of.Given as goal
 
 abbrev pub invariant-loop-k : goal.invariant-loop-k
 invariant-loop-k l = Backing l.pairs l.content l.fragments l.n l.big l.width l.home l.want l.k
-
-abbrev pub decreases-loop-k : goal.decreases-loop-k
-decreases-loop-k l = l.k

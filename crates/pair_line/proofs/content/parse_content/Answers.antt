@@ -1,20 +1,11 @@
-use Rattle.pair_line.proofs.Laws.Content.{contents}
+use Rattle.header.specs.Told.{form_of}
+use Rattle.pair_line.proofs.Laws.Content.{contents, content-1, content-2}
 use Rattle.pair_line.proofs.content.parse_content.Goals as goal
 
-pub address_part-requires : goal.address_part-requires
-address_part-requires c = search contents
+pub returns-in_err-address : goal.returns-in_err-address
+returns-in_err-address c =
+    let e = content-1 (form_of c.args.form) _ c.args.out.now c.address_part.ensures c.in_err-address.was in
+    search contents
 
-pub enum_known-reason : goal.enum_known-reason
-enum_known-reason c = search contents
-
-pub enum_known-value : goal.enum_known-value
-enum_known-value c = search contents
-
-pub parse_byte_many-run-requires : goal.parse_byte_many-run-requires
-parse_byte_many-run-requires c = search contents
-
-pub returns-in-No : goal.returns-in-No
-returns-in-No c = search contents
-
-pub returns-in-Is : goal.returns-in-Is
-returns-in-Is c = search contents
+pub returns : goal.returns
+returns c = content-2 (form_of c.args.form) _ c.args.out.now c.address_part.ensures c.in_ok-address.was c.parse_byte_many-run.ensures

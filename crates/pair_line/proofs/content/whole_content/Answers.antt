@@ -1,23 +1,14 @@
-use Rattle.pair_line.proofs.Laws.Content.{wholes}
+use Rattle.header.specs.Told.{form_of}
+use Rattle.pair_line.proofs.Laws.Content.{wholes, whole-1, whole-2, whole-3}
 use Rattle.pair_line.proofs.content.whole_content.Goals as goal
 
-pub parse_content-c-requires : goal.parse_content-c-requires
-parse_content-c-requires c = search wholes
+pub returns-in_err-content : goal.returns-in_err-content
+returns-in_err-content c =
+    let e = whole-1 (form_of c.args.form) _ c.parse_content.ensures c.in_err-content.was in
+    search wholes
 
-pub enum_known-c : goal.enum_known-c
-enum_known-c c = search wholes
-
-pub enum_told-1 : goal.enum_told-1
-enum_told-1 c = search wholes
-
-pub returns-in_default : goal.returns-in_default
-returns-in_default c = search wholes
-
-pub returns-then-used-t : goal.returns-then-used-t
-returns-then-used-t c = search wholes
-
-pub not_whole-requires : goal.not_whole-requires
-not_whole-requires c = search wholes
+pub returns-then-content-t : goal.returns-then-content-t
+returns-then-content-t c = whole-2 (form_of c.args.form) _ c.parse_content.ensures c.in_ok-content.was c.if-content-t.true
 
 pub returns : goal.returns
-returns c = search wholes
+returns c = whole-3 (form_of c.args.form) _ c.parse_content.ensures c.in_ok-content.was c.if-content-t.false c.not_whole.ensures

@@ -1,41 +1,17 @@
-use Rattle.pair_line.proofs.Laws.Relocations.{relocating}
+use Rattle.header.specs.Told.{form_of}
+use Rattle.pair_line.proofs.Laws.Relocations.{relocating, part-2, part-3}
 use Rattle.pair_line.proofs.relocations.area_part.Goals as goal
-
-pub usual_zero-requires : goal.usual_zero-requires
-usual_zero-requires c = search relocating
-
-pub parse_area_index-requires : goal.parse_area_index-requires
-parse_area_index-requires c = search relocating
 
 pub returns-then-usual_zero : goal.returns-then-usual_zero
 returns-then-usual_zero c = search relocating
 
-pub lead_at-requires : goal.lead_at-requires
-lead_at-requires c = search relocating
+pub returns-in_err-next : goal.returns-in_err-next
+returns-in_err-next c = search relocating
 
-pub enum_known-reason : goal.enum_known-reason
-enum_known-reason c = search relocating
+pub returns-in_err-zero : goal.returns-in_err-zero
+returns-in_err-zero c =
+    let e = part-2 (form_of c.args.form) _ c.lead_at.ensures c.in_ok-next.was c.zero_index.ensures c.in_err-zero.was in
+    search relocating
 
-pub enum_known-next : goal.enum_known-next
-enum_known-next c = search relocating
-
-pub zero_index-z-requires : goal.zero_index-z-requires
-zero_index-z-requires c = search relocating
-
-pub enum_known-z : goal.enum_known-z
-enum_known-z c = search relocating
-
-pub enum_told-1 : goal.enum_told-1
-enum_told-1 c = search relocating
-
-pub returns-in_default : goal.returns-in_default
-returns-in_default c = search relocating
-
-pub next_index-requires : goal.next_index-requires
-next_index-requires c = search relocating
-
-pub returns-in-Not : goal.returns-in-Not
-returns-in-Not c = search relocating
-
-pub returns-in-Is : goal.returns-in-Is
-returns-in-Is c = search relocating
+pub returns : goal.returns
+returns c = part-3 (form_of c.args.form) _ c.lead_at.ensures c.in_ok-next.was c.zero_index.ensures c.in_ok-zero.was c.next_index.ensures

@@ -1,23 +1,11 @@
-use Rattle.pair_line.proofs.Laws.Relocations.{relocating}
+use Rattle.header.specs.Told.{form_of}
+use Rattle.pair_line.proofs.Laws.Relocations.{relocating, relocation-1, relocation-2}
 use Rattle.pair_line.proofs.relocations.parse_reloc_line.Goals as goal
 
-pub area_part-requires : goal.area_part-requires
-area_part-requires c = search relocating
+pub returns-in_err-area : goal.returns-in_err-area
+returns-in_err-area c =
+    let e = relocation-1 (form_of c.args.form) _ c.area_part.ensures c.in_err-area.was c.args.modes.now c.args.entries.now c.args.indexes.now in
+    search relocating
 
-pub enum_known-reason : goal.enum_known-reason
-enum_known-reason c = search relocating
-
-pub enum_known-value : goal.enum_known-value
-enum_known-value c = search relocating
-
-pub parse_reloc_frag-run-requires : goal.parse_reloc_frag-run-requires
-parse_reloc_frag-run-requires c = search relocating
-
-pub past_kind-requires : goal.past_kind-requires
-past_kind-requires c = search relocating
-
-pub returns-in-No : goal.returns-in-No
-returns-in-No c = search relocating
-
-pub returns-in-Is : goal.returns-in-Is
-returns-in-Is c = search relocating
+pub returns : goal.returns
+returns c = relocation-2 (form_of c.args.form) _ c.area_part.ensures c.in_ok-area.was c.parse_reloc_frag-run.ensures c.past_kind.ensures

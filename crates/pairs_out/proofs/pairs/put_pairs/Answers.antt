@@ -7,12 +7,6 @@ loop-i-init c = search pairs
 pub put_pair-p-requires : goal.put_pair-p-requires
 put_pair-p-requires c = search pairs
 
-pub overflow_add-i : goal.overflow_add-i
-overflow_add-i c = search pairs
-
-pub loop-i-smaller : goal.loop-i-smaller
-loop-i-smaller c = search pairs
-
 pub loop-i-preserved : goal.loop-i-preserved
 loop-i-preserved c = search pairs
 

@@ -1,8 +1,5 @@
-use Rattle.position_tests.proofs.Laws.{larges}
+use Rattle.position_tests.proofs.Laws.{longers}
 use Rattle.position_tests.proofs.tests.longer.Goals as goal
 
-pub larger-requires : goal.larger-requires
-larger-requires c = search larges
-
 pub returns : goal.returns
-returns c = search larges
+returns c = search longers

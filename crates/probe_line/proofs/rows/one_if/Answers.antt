@@ -1,8 +1,6 @@
-use Rattle.probe_line.proofs.Laws.{small}
+use mathlib.Core.Path.{◌∙◌}
+use Rattle.probe_line.proofs.Laws.{flag-is}
 use Rattle.probe_line.proofs.rows.one_if.Goals as goal
 
-pub returns-then-b : goal.returns-then-b
-returns-then-b c = search small
-
-pub returns-else-b : goal.returns-else-b
-returns-else-b c = search small
+pub returns : goal.returns
+returns c = c.from.ensures ∙ flag-is c.args.b

@@ -1,14 +1,8 @@
 use Rattle.probe_mode.proofs.Laws.{probes}
 use Rattle.probe_mode.proofs.steps.step_answer.Goals as goal
 
-pub enum_known-step : goal.enum_known-step
-enum_known-step c = search probes
+pub returns-in-Some : goal.returns-in-Some
+returns-in-Some c = search probes
 
-pub enum_told-1 : goal.enum_told-1
-enum_told-1 c = search probes
-
-pub returns-in-Number : goal.returns-in-Number
-returns-in-Number c = search probes
-
-pub returns-in-Short : goal.returns-in-Short
-returns-in-Short c = search probes
+pub returns-in-None : goal.returns-in-None
+returns-in-None c = search probes

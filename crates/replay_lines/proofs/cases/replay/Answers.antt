@@ -1,6 +1,5 @@
 use Rattle.replay_lines.proofs.Laws.{replaying}
-use Rattle.std.proofs.Common.{◌-◌, length}
-use Rattle.replay_lines.proofs.Laws.{Going}
+use Rattle.std.proofs.Common.{◌-◌}
 use Rattle.replay_lines.proofs.cases.replay.Goals as goal
 
 pub loop-p-init : goal.loop-p-init

@@ -1,4 +1,3 @@
-use Rattle.replay_lines.proofs.Laws.{replaying}
 use Rattle.std.proofs.Common.{◌-◌, length}
 use Rattle.replay_lines.proofs.Laws.{Going}
 use Rattle.replay_lines.proofs.cases.replay.Given as goal

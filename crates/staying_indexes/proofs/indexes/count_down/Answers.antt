@@ -4,20 +4,8 @@ use Rattle.staying_indexes.proofs.indexes.count_down.Goals as goal
 pub loop-i-init : goal.loop-i-init
 loop-i-init c = search lowers
 
-pub shape_of-fragments-then-m-i : goal.shape_of-fragments-then-m-i
-shape_of-fragments-then-m-i c = search lowers
-
-pub returns-then-m-i : goal.returns-then-m-i
-returns-then-m-i c = search lowers
-
 pub count_one-requires : goal.count_one-requires
 count_one-requires c = search lowers
-
-pub overflow_add-i : goal.overflow_add-i
-overflow_add-i c = search lowers
-
-pub loop-i-smaller : goal.loop-i-smaller
-loop-i-smaller c = search lowers
 
 pub loop-i-preserved : goal.loop-i-preserved
 loop-i-preserved c = search lowers

@@ -5,12 +5,6 @@ use Rattle.steps.proofs.pair.any_pair.Goals as goal
 pub pair_places-requires : goal.pair_places-requires
 pair_places-requires c = search psteps
 
-pub enum_known-first : goal.enum_known-first
-enum_known-first c = search psteps
-
-pub enum_told-1 : goal.enum_told-1
-enum_told-1 c = search psteps
-
 pub returns-in_default : goal.returns-in_default
 returns-in_default c = record { pair_step_is = search psteps; left_at = search lefts-at }
 

@@ -1,8 +1,5 @@
 use Rattle.symbol_rows.proofs.Symbols.{symbols}
 use Rattle.symbol_rows.proofs.symbol.symbol_value.Goals as goal
 
-pub symbol_cell-requires : goal.symbol_cell-requires
-symbol_cell-requires c = search symbols
-
 pub returns : goal.returns
 returns c = search symbols

@@ -14,9 +14,6 @@ loop-entry-init c = search grouping
 pub entry_step-step-requires : goal.entry_step-step-requires
 entry_step-step-requires c = search grouping
 
-pub enum_known-step : goal.enum_known-step
-enum_known-step c = search grouping
-
 pub enum_told-1 : goal.enum_told-1
 enum_told-1 c = search grouping
 
@@ -25,24 +22,6 @@ shape_of-symbols-in_default c = search grouping
 
 pub returns-in_default : goal.returns-in_default
 returns-in_default c = search grouping
-
-pub add_entry-added-requires : goal.add_entry-added-requires
-add_entry-added-requires c = search grouping
-
-pub enum_known-added : goal.enum_known-added
-enum_known-added c = search grouping
-
-pub enum_told-in_default-added : goal.enum_told-in_default-added
-enum_told-in_default-added c = search grouping
-
-pub full-requires : goal.full-requires
-full-requires c = search grouping
-
-pub shape_of-symbols-in_default-added : goal.shape_of-symbols-in_default-added
-shape_of-symbols-in_default-added c = search grouping
-
-pub returns-in_default-added : goal.returns-in_default-added
-returns-in_default-added c = search grouping
 
 pub found_of-f-requires-in-loop-entry : goal.found_of-f-requires-in-loop-entry
 found_of-f-requires-in-loop-entry c = search grouping
@@ -58,3 +37,6 @@ loop-entry-smaller c = search grouping
 
 pub loop-entry-preserved : goal.loop-entry-preserved
 loop-entry-preserved c = (search grouping, search grouping, search rules)
+
+pub returns-in-Err : goal.returns-in-Err
+returns-in-Err c = search grouping

@@ -1,15 +1,6 @@
 use Rattle.target.proofs.AnswerLaws.{targets}
 use Rattle.target.proofs.answer.target_by.Goals as goal
 
-pub is_allowed-requires : goal.is_allowed-requires
-is_allowed-requires c = search targets
-
-pub reached-requires : goal.reached-requires
-reached-requires c = search targets
-
-pub refused-requires : goal.refused-requires
-refused-requires c = search targets
-
 pub returns-then-is_allowed : goal.returns-then-is_allowed
 returns-then-is_allowed c = search targets
 

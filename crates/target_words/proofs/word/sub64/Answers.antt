@@ -3,9 +3,6 @@ use Rattle.std.proofs.Common.{rules}
 use Rattle.format.specs.Target.{wrap_sub}
 use Rattle.target_words.proofs.word.sub64.Goals as goal
 
-pub wrapping_sub_u64-requires : goal.wrapping_sub_u64-requires
-wrapping_sub_u64-requires c = search reading
-
 pub returns : goal.returns
 unfolding wrap_sub
 returns c = search rules

@@ -1,8 +1,0 @@
-use Rattle.std.proofs.Common.{◌-◌, length, rules}
-use Rattle.pack.proofs.list.line_end.Given as goal
-
-abbrev pub invariant-loop-i : goal.invariant-loop-i
-invariant-loop-i l = Unit {0}
-
-abbrev pub decreases-loop-i : goal.decreases-loop-i
-decreases-loop-i l = length l.names - l.i

@@ -1,8 +1,0 @@
-use Rattle.replay_lines.proofs.Laws.{counting}
-use Rattle.replay_lines.proofs.sums.name_sum.Given as goal
-
-abbrev pub invariant-loop-k : goal.invariant-loop-k
-invariant-loop-k l = Unit {0}
-
-abbrev pub decreases-loop-k : goal.decreases-loop-k
-decreases-loop-k l = l.k
