@@ -1,6 +1,6 @@
 -- The laws of equal fixups.
 -- Assumes nothing.
-use Prim.Native.Nat.{ℕ, suc}
+use Prim.Native.Nat.{ℕ, suc, ◌+◌, ◌*◌}
 use mathlib.Core.Path.{◌≡◌, refl, ap, sym, ◌∙◌}
 use mathlib.Core.Bool.{Bool, true, false}
 use mathlib.Core.List.{List, [], ◌∷◌, ◌++◌}
@@ -12,13 +12,13 @@ use borrow.Author.Rules.{rules}
 use borrow.Author.Tests.{eq-eqb, ne_eqb}
 use Rattle.format.specs.Lists.{pick}
 use Rattle.format.specs.Fixups as the
-use Rattle.laws.specs.Rows.{fixup_row}
+use Rattle.laws.specs.Rows.{fixup_row, fixup_from}
 use Rattle.fixup_rows.specs.Fixups.{name_of, told_fixup}
 use Rattle.fixup_rows.specs.declared.fixup.Fixup.{Fixup}
 use Rattle.difference.specs.Module.{same_numbers, says}
 use Rattle.difference.proofs.Lists.{same-eq}
 use Rattle.alike.specs.Parts.{numbers_of, refers_to}
-use Rattle.alike.proofs.Names.{same-each}
+use Rattle.alike.proofs.Names.{not-same, same-each}
 
 -- `numbers`
 pub numbers-told : (x : Fixup) → x.home ∷ x.position ∷ x.size ∷ x.mode ∷ x.value ∷ x.number ∷ x.outside ∷ [] ≡ numbers_of (told_fixup x)
@@ -29,7 +29,43 @@ numbers-told x = refl
 pub numbers-same : (a b : List ℕ) (x y : Fixup) → a ≡ numbers_of (told_fixup x) → b ≡ numbers_of (told_fixup y) → {r : Bool} → r ≡ pointwise eqb a b → r ≡ same_numbers (numbers_of (told_fixup x)) (numbers_of (told_fixup y))
 numbers-same a b x y e f g = g ∙ (same-each a b ∙ rw (e, f))
 
-pub ruleset numbers = (rules, numbers-told, numbers-same)
+-- numbers that differ in one
+module _ (x y : Fixup) where
+  pub home-apart : (x.home ≡ y.home → ⊥) → false ≡ same_numbers (numbers_of (told_fixup x)) (numbers_of (told_fixup y))
+  unfolding numbers_of
+  home-apart h = not-same (numbers_of (told_fixup x)) (numbers_of (told_fixup y)) (λ e. h (ap (λ (l : List ℕ). get_or l 0 0) e))
+
+  pub position-apart : (x.position ≡ y.position → ⊥) → false ≡ same_numbers (numbers_of (told_fixup x)) (numbers_of (told_fixup y))
+  unfolding numbers_of
+  position-apart h = not-same (numbers_of (told_fixup x)) (numbers_of (told_fixup y)) (λ e. h (ap (λ (l : List ℕ). get_or l 1 0) e))
+
+  pub size-apart : (x.size ≡ y.size → ⊥) → false ≡ same_numbers (numbers_of (told_fixup x)) (numbers_of (told_fixup y))
+  unfolding numbers_of
+  size-apart h = not-same (numbers_of (told_fixup x)) (numbers_of (told_fixup y)) (λ e. h (ap (λ (l : List ℕ). get_or l 2 0) e))
+
+  pub mode-apart : (x.mode ≡ y.mode → ⊥) → false ≡ same_numbers (numbers_of (told_fixup x)) (numbers_of (told_fixup y))
+  unfolding numbers_of
+  mode-apart h = not-same (numbers_of (told_fixup x)) (numbers_of (told_fixup y)) (λ e. h (ap (λ (l : List ℕ). get_or l 3 0) e))
+
+  pub value-apart : (x.value ≡ y.value → ⊥) → false ≡ same_numbers (numbers_of (told_fixup x)) (numbers_of (told_fixup y))
+  unfolding numbers_of
+  value-apart h = not-same (numbers_of (told_fixup x)) (numbers_of (told_fixup y)) (λ e. h (ap (λ (l : List ℕ). get_or l 4 0) e))
+
+  pub number-apart : (x.number ≡ y.number → ⊥) → false ≡ same_numbers (numbers_of (told_fixup x)) (numbers_of (told_fixup y))
+  unfolding numbers_of
+  number-apart h = not-same (numbers_of (told_fixup x)) (numbers_of (told_fixup y)) (λ e. h (ap (λ (l : List ℕ). get_or l 5 0) e))
+
+  pub numbers-each : x.home ≡ y.home → x.position ≡ y.position → x.size ≡ y.size → x.mode ≡ y.mode → x.value ≡ y.value → x.number ≡ y.number
+      → eqb x.outside y.outside ≡ same_numbers (numbers_of (told_fixup x)) (numbers_of (told_fixup y))
+  unfolding numbers_of same_numbers
+  numbers-each a b c d e f =
+      rw (eq-eqb x.home y.home a, eq-eqb x.position y.position b, eq-eqb x.size y.size c, eq-eqb x.mode y.mode d, eq-eqb x.value y.value e, eq-eqb x.number y.number f) (last (eqb x.outside y.outside))
+    where
+      last : (b : Bool) → b ≡ pick b true false
+      last true = refl
+      last false = refl
+
+pub ruleset numbers = (rules, numbers-told, numbers-same, home-apart, position-apart, size-apart, mode-apart, value-apart, number-apart, numbers-each)
 
 -- two lists in two parts
 pick-with : (b c d e : Bool) → c ≡ pick d e false → pick b c false ≡ pick (pick b d false) e false
@@ -47,6 +83,13 @@ in_parts (x ∷ xs) (y ∷ ys) p q h =
 pub says-parts : (s t : List ℕ) (x y : the.Fixup) → same_numbers (says s x) (says t y) ≡ pick (same_numbers (numbers_of x) (numbers_of y)) (same_numbers (refers_to s x) (refers_to t y)) false
 unfolding says numbers_of refers_to
 says-parts s t x y = in_parts (numbers_of x) (numbers_of y) (refers_to s x) (refers_to t y) refl
+
+-- fixups at two positions
+pub positions-apart : (s xs : List ℕ) (i : ℕ) (t ys : List ℕ) (j : ℕ) → (get_or xs (9 * i + 1) 0 ≡ get_or ys (9 * j + 1) 0 → ⊥) → false ≡ same_numbers (says s (fixup_row xs i)) (says t (fixup_row ys j))
+unfolding numbers_of fixup_row fixup_from
+positions-apart s xs i t ys j h =
+    let f : false ≡ same_numbers (numbers_of (fixup_row xs i)) (numbers_of (fixup_row ys j)) = not-same (numbers_of (fixup_row xs i)) (numbers_of (fixup_row ys j)) (λ e. h (ap (λ (l : List ℕ). get_or l 1 0) e)) in
+    sym (says-parts s t (fixup_row xs i) (fixup_row ys j) ∙ rw (← f))
 
 -- what `same_reference` asks
 pub outside-same : (x y : Fixup) {b : Bool} → b ≡ same_numbers (numbers_of (told_fixup x)) (numbers_of (told_fixup y)) → b ≡ true → x.outside ≡ y.outside
@@ -88,4 +131,4 @@ module _ (s t xs ys : List ℕ) (i j : ℕ) {x y : Fixup} (e : told_fixup x ≡ 
 
 pub ruleset references = (rules, area-reference, name-reference)
 
-pub ruleset fixups = (rules, outside-same, same-numbers, other-numbers)
+pub ruleset fixups = (rules, positions-apart, outside-same, same-numbers, other-numbers)

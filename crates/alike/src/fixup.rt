@@ -7,21 +7,33 @@ ghost use Rattle.alike.specs.Parts.{numbers_of, refers_to};
 
 use crate::name::same_name;
 use fixup_rows::{Fixup, fixup_at, fixup_name};
+use row_parts::fixup_cell;
 
-// The numbers of a fixup, but for what it refers to.
-fn numbers(x: Fixup) -> [u32; 7]
-    ensures { result ≡ numbers_of (told_fixup x) }
-{
-    [
-        x.home, x.position, x.size, x.mode, x.value, x.number, x.outside,
-    ]
-}
-
-// Whether all is equal but what they refer to.
+// Whether all is equal but what they refer to. Number by number, since most fixups differ in the first two, and `==` of two
+// arrays looks at all seven.
+#[inline(always)]
 fn same_numbers(x: Fixup, y: Fixup) -> bool
     ensures { result ≡ same_numbers (numbers_of (told_fixup x)) (numbers_of (told_fixup y)) }
 {
-    numbers(x) == numbers(y)
+    if x.home != y.home {
+        return false;
+    }
+    if x.position != y.position {
+        return false;
+    }
+    if x.size != y.size {
+        return false;
+    }
+    if x.mode != y.mode {
+        return false;
+    }
+    if x.value != y.value {
+        return false;
+    }
+    if x.number != y.number {
+        return false;
+    }
+    x.outside == y.outside
 }
 
 // Whether fixup i, which is x, and fixup j, which is y, refer to the same: an area by its id, an outside symbol by its name.
@@ -44,10 +56,15 @@ fn same_reference(
     same_name(fixup_name(s, xs, i), fixup_name(t, ys, j))
 }
 
-// Whether fixup i of a text says the same as fixup j of another.
+// Whether fixup i of a text says the same as fixup j of another. Most differ in their positions, which are compared before the
+// rest of their rows is read.
+#[inline(always)]
 pub fn same_fixup(s: &[u8], xs: &[u32], i: usize, t: &[u8], ys: &[u32], j: usize) -> bool
     ensures { result ≡ same_numbers (says s.now (fixup_row xs.now i)) (says t.now (fixup_row ys.now j)) }
 {
+    if fixup_cell(xs, i, 1) != fixup_cell(ys, j, 1) {
+        return false;
+    }
     let x = fixup_at(xs, i);
     let y = fixup_at(ys, j);
     if same_numbers(x, y) {

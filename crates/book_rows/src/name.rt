@@ -24,9 +24,22 @@ pub fn part_of<'a>(bytes: &'a [u8], at: usize, n: u32) -> &'a [u8]
     &bytes[start..end]
 }
 
+// Names mostly differ in their first bytes. Those are compared one by one, since std's `cmp` looks at groups of bytes first.
+const HEAD: usize = 16;
+
 // Two names compared byte by byte: how the first stands to the second; a name stands before every longer one that begins with it.
 pub fn compare(a: &[u8], b: &[u8]) -> Ordering
     ensures { order a.now b.now ≡ order_by result }
 {
+    for i in 0..a.len().min(b.len()).min(HEAD) {
+        let x = a[i];
+        let y = b[i];
+        if x < y {
+            return Ordering::Less;
+        }
+        if y < x {
+            return Ordering::Greater;
+        }
+    }
     a.cmp(b)
 }

@@ -5,10 +5,12 @@ use mathlib.Core.Path.{◌≡◌, refl, sym, ◌∙◌}
 use mathlib.Core.Logic.{◌⊎◌, inl, inr}
 use mathlib.Core.List.{List, [], ◌∷◌, ◌++◌}
 use native.Mathlib.Nat.{add-zero, add-suc, suc-add}
+use native.Mathlib.Numerals.{add-one}
 use native.Mathlib.Omega.{arith}
 use borrow.Rule.Slice.PartMut.{put_mid}
+use borrow.Author.Rules.{rules}
 use lib.ListN.{length, take, drop, replicate, get_or, set, length-set, length-replicate, length-take, length-drop, get_or-eq_default}
-use lib.Seq.{sets, sets-eq, set_out, take_all, take-take, take-nil, length-take-le}
+use lib.Seq.{sets, sets-eq, set_out, take-suc, take_all, take-take, take-nil, length-take-le}
 use Rattle.std.proofs.lemmas.Bool.{cases_lt}
 use Rattle.std.proofs.lemmas.List.{take-replicate}
 use Rattle.std.proofs.lemmas.Slice.{put_mid-paste}
@@ -66,6 +68,41 @@ module _ {A : Type 0} (d s : List A) (at n : ℕ) {j k : ℕ} (p : Room (length 
 
   pub copy_none : k ≤ 0 → d ≡ sets d at (take n s)
   copy_none h = let e : k ≡ 0 = omega arith in (rw e at copied)
+
+-- ------------------------------------------------------------------ `copy_bytes`
+
+-- a loop that stores the first k of vs from a place on: i are stored
+pub record Storing (d vs : List ℕ) (at k : ℕ) (l : List ℕ) (i : ℕ) : Type 0 where
+  pub within : i ≤ k
+  pub sofar : l ≡ sets d at (take i vs)
+  pub long : length l ≡ length d
+
+pub store-start : (d vs : List ℕ) (at k : ℕ) → Storing d vs at k d 0
+store-start d vs at k = record { within = omega arith; sofar = refl; long = refl }
+
+one_more : (d vs : List ℕ) (at i : ℕ) → i < length vs → set (sets d at (take i vs)) (at + i) (get_or vs i 0) ≡ sets d at (take (i + 1) vs)
+one_more d vs at i h =
+    rw (add-one, take-suc vs i 0 h) (sym (sets-append d at (take i vs) (get_or vs i 0 ∷ []) ∙ rw (length-take-le i vs (omega arith))))
+
+module _ (d s : List ℕ) (at n : ℕ) {j k : ℕ} (p : Room (length d) at n j) (q : Room (length s) 0 j k) where
+  module _ {l : List ℕ} {i : ℕ} (w : Storing d s at k l i) where
+    pub copy_read : i < k → i < length s
+    copy_read h = omega (arith, q.inside)
+
+    pub copy-write : i < k → at + i < length l
+    copy-write h = omega (arith, p.inside, q.few, w.long)
+
+    pub copy_more : i < k → Storing d s at k (set l (at + i) (get_or s i 0)) (i + 1)
+    copy_more h = record {
+      within = omega arith;
+      sofar = rw w.sofar (one_more d s at i (omega (arith, q.inside)));
+      long = simp length-set w.long;
+    }
+
+    pub copy-end : k ≤ i → l ≡ sets d at (take n s)
+    copy-end h = let e : i ≡ k = omega (arith, w.within) in (rw e at w.sofar) ∙ copied d s at n p q
+
+pub ruleset copying = (rules, store-start, copy_read, copy-write, copy_more, copy-end)
 
 -- ------------------------------------------------------------------ `fill_bytes`
 

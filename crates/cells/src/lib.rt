@@ -73,11 +73,15 @@ fn copy<T: Copy>(dst: &mut [T], at: usize, src: &[T], n: usize)
     }
 }
 
-// The first n bytes of src over dst, from a place on.
+// The first n bytes of src over dst, from a place on. A loop, since `copy_from_slice` asks which of the two stands first in memory:
+// a few bytes are then stored by a call, and what nobody reads is cleared and written all the same.
 pub fn copy_bytes(dst: &mut [u8], at: usize, src: &[u8], n: usize)
     ensures { dst.new ≡ sets dst.old at (take n src.now) }
 {
-    copy(dst, at, src, n)
+    let k = room(src.len(), 0, room(dst.len(), at, n));
+    for i in 0..k {
+        dst[at + i] = src[i];
+    }
 }
 
 // The first n numbers of src over dst, from a place on.

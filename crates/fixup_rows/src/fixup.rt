@@ -22,6 +22,7 @@ pub struct Fixup {
 }
 
 // Fixup i.
+#[inline(always)]
 pub fn fixup_at(fixups: &[u32], i: usize) -> Fixup
     ensures { told_fixup result ≡ fixup_row fixups.now i }
 {

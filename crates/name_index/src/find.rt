@@ -9,6 +9,7 @@ use cells::{at, wide};
 use symbol_rows::symbol_name;
 
 // Whether symbol j has this name.
+#[inline(always)]
 fn named(name: &[u8], text: &[u8], symbols: &[u32], j: usize) -> bool
     ensures { result ≡ named_at name.now text.now symbols.now j }
 {

@@ -1,6 +1,8 @@
 // A module by its file's name, for the page: its row, what standard error is told of it, and the totals with it.
 #![tactic(auto)]
 
+ghost use Rattle.kinds.specs.Kinds.{kinds_in};
+
 use host::Host;
 use kinds::Kinds;
 use report_lines::{Form, Image, Own, Tally};
@@ -12,6 +14,8 @@ struct Rows;
 
 impl Form for Rows {
     type Positions = Kinds;
+
+    ghost told_positions = { kinds_in };
 
     fn positions(masks: &Image, map: &Image, n: usize) -> Kinds {
         kinds::kinds_in(masks, map, n)

@@ -8,7 +8,7 @@ ghost use Rattle.pair_line.specs.Pairs.{Relocations};
 use crate::usual::usual_zero;
 use fragments::{next_index, parse_reloc_frag};
 use header::Form;
-use numbers::{Halt, Parsed};
+use numbers::{Halt, Parsed, Reason};
 use scan::Kind;
 use zero_only::zero_only;
 
@@ -24,7 +24,11 @@ pub struct Relocation {
 fn zero_index(t: &[u8], at: usize, radix: u8, big: bool) -> Parsed<u32>
     ensures { told result ≡ zero_index radix big t.now at }
 {
-    zero_only(joined::parse_area_index(t, at, radix, big), at)
+    let other = Halt {
+        reason: Reason::Other,
+        at,
+    };
+    zero_only(joined::parse_area_index(t, at, radix, big), other)
 }
 
 // R, index 0, the area's index. The usual form is read at once.

@@ -1,4 +1,6 @@
 // How a report tells of modules: by lines, or in another form that a crate above gives.
+ghost use Rattle.std.specs.Prelude.{◌≡◌, ℕ, List};
+
 use crate::words::{read_line, refused_line};
 use counts_of::Counted;
 use ended_answer::Verdict;
@@ -22,7 +24,11 @@ pub trait Form {
     type Positions: Copy;
 
     // What is told of n positions, by their masks and the marks of those that a line writes.
-    fn positions(masks: &Image, map: &Image, n: usize) -> Self::Positions;
+    ghost told_positions: { List ℕ → List ℕ → ℕ → Self.Positions };
+
+    // The same, computed.
+    fn positions(masks: &Image, map: &Image, n: usize) -> Self::Positions
+        ensures { result ≡ told_positions masks.now map.now n };
 
     // A module that is refused.
     fn refused(s: Sink, out: &mut Buffer, name: &[u8], number: usize, place: usize) -> Sink;
@@ -36,6 +42,8 @@ pub struct Lines;
 
 impl Form for Lines {
     type Positions = ();
+
+    ghost told_positions = { λ masks map n. tt };
 
     fn positions(_masks: &Image, _map: &Image, _n: usize) {}
 

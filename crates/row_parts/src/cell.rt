@@ -16,11 +16,22 @@ pub fn part<'a>(s: &'a [u8], start: usize, len: usize) -> &'a [u8]
     }
 }
 
-// A number of row i of a table whose rows are so wide, or 0 past the end.
+// A number of row i of a table whose rows are so wide, or 0 past the end. Its tests are by the row first, so that the tests of one
+// row's numbers, whose width is known to the caller, are made once.
 pub fn row_cell(rows: &[u32], width: usize, i: usize, c: usize) -> u32
     ensures { result ≡ get_or rows.now (width * i + c) 0 }
 {
-    at(rows, width.saturating_mul(i).saturating_add(c))
+    if width == 0 {
+        return at(rows, c);
+    }
+    if rows.len() / width < i {
+        return 0;
+    }
+    let start = width * i;
+    if rows.len() - start <= c {
+        return 0;
+    }
+    at(rows, start + c)
 }
 
 // A number of area i's row, or 0 past the end.

@@ -6,7 +6,7 @@ use mathlib.Core.List.{List, ◌++◌}
 use native.Mathlib.Omega.{arith}
 use borrow.Rule.Slice.PartMut.{put_mid}
 use lib.ListN.{length, take, drop}
-use lib.Seq.{sets, sets-eq, take_all}
+use lib.Seq.{sets, sets-eq, take_all, take-length}
 use Rattle.std.proofs.lemmas.Slice.{put_mid-paste}
 use Rattle.sink.specs.declared.output.Sink.{Sink}
 use Rattle.sink.specs.Sinks.{behind, Adds}
@@ -23,3 +23,7 @@ module _ (s : Sink) (out bytes ys : List ℕ) (m : ℕ) (e : ys ≡ bytes) (k : 
 
   pub adds-room : Adds s out bytes (behind s bytes) (put_mid s.used m out ys)
   adds-room = record { waits = λ l. refl; stand = λ l. stored }
+
+-- the same of bytes that were stored one by one
+pub adds-stored : (s : Sink) (out bytes : List ℕ) {after : List ℕ} → after ≡ sets out s.used (take (length bytes) bytes) → Adds s out bytes (behind s bytes) after
+adds-stored s out bytes e = record { waits = λ l. refl; stand = λ l. rw (take-length bytes) at e }

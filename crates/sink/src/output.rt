@@ -35,6 +35,7 @@ fn broken() -> Sink
 }
 
 // Writes the bytes that wait in a slice. A write that fails is told once.
+#[inline(never)]
 fn write(s: Sink, out: &[u8]) -> Sink
     ensures { Written s result }
 {
@@ -48,7 +49,9 @@ fn write(s: Sink, out: &[u8]) -> Sink
     broken()
 }
 
-// Adds bytes to those that wait in a slice, which are written first where it has no room left.
+// Adds bytes to those that wait in a slice, which are written first where it has no room left. Inlined, as `put` is, since most
+// callers add a few bytes whose number is known there, which are then stored without a call.
+#[inline(always)]
 fn add(s: Sink, out: &mut [u8], bytes: &[u8]) -> Sink
     ensures { Adds s out.old bytes.now result out.new }
 {
@@ -57,7 +60,7 @@ fn add(s: Sink, out: &mut [u8], bytes: &[u8]) -> Sink
     if out.len() < used || out.len() - used < n {
         return add_first(write(s, out), out, bytes);
     }
-    out[used..used + n].copy_from_slice(bytes);
+    cells::copy_bytes(out, used, bytes, n);
     Sink {
         used: used + n,
         ..s
@@ -65,11 +68,12 @@ fn add(s: Sink, out: &mut [u8], bytes: &[u8]) -> Sink
 }
 
 // Adds bytes where none wait, or writes them at once where they are more than the slice holds.
+#[inline(never)]
 fn add_first(s: Sink, out: &mut [u8], bytes: &[u8]) -> Sink {
     let n = bytes.len();
     let t = Sink { used: n, ..s };
     if n <= out.len() {
-        out[..n].copy_from_slice(bytes);
+        cells::copy_bytes(out, 0, bytes, n);
         return t;
     }
     write(t, bytes)
@@ -83,6 +87,7 @@ pub fn flush(s: Sink, out: &Buffer) -> Sink
 }
 
 // Adds bytes to what waits.
+#[inline(always)]
 pub fn put(s: Sink, out: &mut Buffer, bytes: &[u8]) -> Sink
     ensures { Adds s out.old bytes.now result out.new }
 {

@@ -7,6 +7,7 @@ use cells::wide;
 use row_parts::{part, symbol_cell};
 
 // A symbol's name, as a part of the text.
+#[inline(always)]
 pub fn symbol_name<'a>(text: &'a [u8], symbols: &[u32], i: usize) -> &'a [u8]
     ensures { result.now ≡ name_in text.now (symbol_at symbols.now i).name }
 {

@@ -2,21 +2,19 @@
 #![tactic(auto)]
 
 ghost use Rattle.std.specs.Prelude.{◌≡◌};
-ghost use Rattle.numbers.specs.Told.{told};
-ghost use Rattle.zero_only.specs.Zero.{zero_only};
+ghost use Rattle.zero_only.specs.Zero.{zero_or};
 
-use numbers::{Halt, Parsed, Reason};
+use numbers::Read;
 
-// What was read at a place, if it is 0; another number is a halt at that place, and a halt stays what it is.
-pub fn zero_only(i: Parsed<u32>, at: usize) -> Parsed<u32>
-    ensures { told result ≡ zero_only (told i) at }
+// What was read, if it is 0; another number is the halt that is given for it, and a halt of any type stays what it is.
+pub fn zero_only<H: Copy>(i: Result<Read<u32>, H>, other: H) -> Result<Read<u32>, H>
+    ensures { result ≡ zero_or i other }
 {
-    let n = i?;
+    let Ok(n) = i else {
+        return i;
+    };
     if n.value == 0 {
         return Ok(n);
     }
-    Err(Halt {
-        reason: Reason::Other,
-        at,
-    })
+    Err(other)
 }

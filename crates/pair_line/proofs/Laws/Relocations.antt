@@ -16,19 +16,22 @@ use Rattle.format.specs.Header.{Form}
 use Rattle.format.specs.Entries.{spelled, R, lead}
 use Rattle.format.specs.Pairs.{index, next_index, zero_index, area_part, relocation_line}
 use Rattle.format.specs.Pairs as the
-use Rattle.numbers.specs.Told.{told}
+use Rattle.numbers.specs.Told.{told, code}
 use Rattle.numbers.specs.declared.Halt.{Halt}
 use Rattle.numbers.specs.declared.Read.{Read}
-use Rattle.zero_only.specs.Zero.{zero_only}
+use Rattle.zero_only.specs.Zero.{zero_only, zero_or}
+use Rattle.zero_only.proofs.Laws.{zero-told}
 use Rattle.fields.specs.Told.{went}
 use Rattle.fragments.specs.Fragments.{FragmentsRead}
 use Rattle.pair_line.specs.Usual.{Zeroed}
 use Rattle.pair_line.specs.Pairs.{sized, fragments_in, numbered, Relocations}
 
 -- `zero_index`
-pub zero_is : (radix : ℕ) (big : Bool) (s : List ℕ) (at : ℕ) {m n : Got ℕ} → m ≡ index radix big s at → n ≡ zero_only m at → n ≡ zero_index radix big s at
+pub zero_is : (radix : ℕ) (big : Bool) (s : List ℕ) (at : ℕ) (i : Result (Read ℕ) Halt) {r : Result (Read ℕ) Halt} (other : Halt) → told i ≡ index radix big s at → r ≡ zero_or i other → code other.reason ≡ 4 → other.at ≡ at → told r ≡ zero_index radix big s at
 unfolding zero_index
-zero_is radix big s at e g = g ∙ rw e
+zero_is radix big s at i {r} other e g p q =
+    let h : told r ≡ zero_only (told i) at = rw g (zero-told i other at p q) in
+    h ∙ rw e
 
 -- the same of an index that was read
 pub zero-2 : (radix : ℕ) (big : Bool) (s : List ℕ) (at : ℕ) {i : Result (Read ℕ) Halt} → told i ≡ index radix big s at → {r : Read ℕ} → i ≡ Ok r → r.value ≡ 0 → is r.value r.next ≡ zero_index radix big s at

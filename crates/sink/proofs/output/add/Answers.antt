@@ -1,6 +1,5 @@
-use native.Mathlib.Omega.{arith}
-use Rattle.sink.proofs.Laws.{adds-room}
+use Rattle.sink.proofs.Laws.{adds-stored}
 use Rattle.sink.proofs.output.add.Goals as goal
 
 pub returns : goal.returns
-returns c = adds-room c.args.s c.args.out.now c.args.bytes.now _ _ c.copy_from_slice.ensures.after (omega arith) (omega arith)
+returns c = adds-stored c.args.s c.args.out.now c.args.bytes.now c.copy_bytes.ensures
