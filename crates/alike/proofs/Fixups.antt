@@ -84,12 +84,12 @@ pub says-parts : (s t : List ℕ) (x y : the.Fixup) → same_numbers (says s x) 
 unfolding says numbers_of refers_to
 says-parts s t x y = in_parts (numbers_of x) (numbers_of y) (refers_to s x) (refers_to t y) refl
 
--- fixups at two positions
-pub positions-apart : (s xs : List ℕ) (i : ℕ) (t ys : List ℕ) (j : ℕ) → (get_or xs (9 * i + 1) 0 ≡ get_or ys (9 * j + 1) 0 → ⊥) → false ≡ same_numbers (says s (fixup_row xs i)) (says t (fixup_row ys j))
+-- `same_behind`
+pub positions-apart : (s xs : List ℕ) (i : ℕ) (t ys : List ℕ) (j : ℕ) {p q : ℕ} → p ≡ get_or xs (9 * i + 1) 0 → q ≡ get_or ys (9 * j + 1) 0 → (q ≡ p → ⊥) → false ≡ same_numbers (says s (fixup_row xs i)) (says t (fixup_row ys j))
 unfolding numbers_of fixup_row fixup_from
-positions-apart s xs i t ys j h =
-    let f : false ≡ same_numbers (numbers_of (fixup_row xs i)) (numbers_of (fixup_row ys j)) = not-same (numbers_of (fixup_row xs i)) (numbers_of (fixup_row ys j)) (λ e. h (ap (λ (l : List ℕ). get_or l 1 0) e)) in
-    sym (says-parts s t (fixup_row xs i) (fixup_row ys j) ∙ rw (← f))
+positions-apart s xs i t ys j e f h =
+    let g : false ≡ same_numbers (numbers_of (fixup_row xs i)) (numbers_of (fixup_row ys j)) = not-same (numbers_of (fixup_row xs i)) (numbers_of (fixup_row ys j)) (λ k. h (f ∙ (sym (ap (λ (l : List ℕ). get_or l 1 0) k) ∙ sym e))) in
+    sym (says-parts s t (fixup_row xs i) (fixup_row ys j) ∙ rw (← g))
 
 -- what `same_reference` asks
 pub outside-same : (x y : Fixup) {b : Bool} → b ≡ same_numbers (numbers_of (told_fixup x)) (numbers_of (told_fixup y)) → b ≡ true → x.outside ≡ y.outside
@@ -131,4 +131,6 @@ module _ (s t xs ys : List ℕ) (i j : ℕ) {x y : Fixup} (e : told_fixup x ≡ 
 
 pub ruleset references = (rules, area-reference, name-reference)
 
-pub ruleset fixups = (rules, positions-apart, outside-same, same-numbers, other-numbers)
+pub ruleset fixups = (rules, outside-same, same-numbers, other-numbers)
+
+pub ruleset behind = (rules, positions-apart)

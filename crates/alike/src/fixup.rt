@@ -7,7 +7,6 @@ ghost use Rattle.alike.specs.Parts.{numbers_of, refers_to};
 
 use crate::name::same_name;
 use fixup_rows::{Fixup, fixup_at, fixup_name};
-use row_parts::fixup_cell;
 
 // Whether all is equal but what they refer to. Number by number, since most fixups differ in the first two, and `==` of two
 // arrays looks at all seven.
@@ -56,15 +55,10 @@ fn same_reference(
     same_name(fixup_name(s, xs, i), fixup_name(t, ys, j))
 }
 
-// Whether fixup i of a text says the same as fixup j of another. Most differ in their positions, which are compared before the
-// rest of their rows is read.
-#[inline(always)]
+// Whether fixup i of a text says the same as fixup j of another.
 pub fn same_fixup(s: &[u8], xs: &[u32], i: usize, t: &[u8], ys: &[u32], j: usize) -> bool
     ensures { result ≡ same_numbers (says s.now (fixup_row xs.now i)) (says t.now (fixup_row ys.now j)) }
 {
-    if fixup_cell(xs, i, 1) != fixup_cell(ys, j, 1) {
-        return false;
-    }
     let x = fixup_at(xs, i);
     let y = fixup_at(ys, j);
     if same_numbers(x, y) {

@@ -1,16 +1,41 @@
 // Which of a side's fixups equals one of the other's.
-ghost use Rattle.std.specs.Prelude.{◌≡◌};
+ghost use Rattle.std.specs.Prelude.{◌≡◌, ◌+◌, ◌*◌, get_or};
+ghost use Rattle.laws.specs.Rows.{fixup_row};
+ghost use Rattle.difference.specs.Module.{same_numbers, says};
 ghost use Rattle.alike.specs.Parts.{same_at};
 ghost use Rattle.alike.specs.Looked.{like_from, first_of};
 
 use crate::fixup::same_fixup;
+use row_parts::fixup_cell;
+
+// Whether fixup i, which has this position, says the same as fixup j. Most have another, which is compared before the rest of
+// their rows is read.
+#[inline(always)]
+fn same_behind(
+    s: &[u8],
+    xs: &[u32],
+    i: usize,
+    position: u32,
+    t: &[u8],
+    ys: &[u32],
+    j: usize,
+) -> bool
+    requires { position ≡ get_or xs.now (9 * i + 1) 0 }
+    ensures { result ≡ same_numbers (says s.now (fixup_row xs.now i)) (says t.now (fixup_row ys.now j)) }
+{
+    if fixup_cell(ys, j, 1) != position {
+        return false;
+    }
+    same_fixup(s, xs, i, t, ys, j)
+}
 
 // The first of n fixups that equals fixup i, or n.
 fn first_like(s: &[u8], xs: &[u32], i: usize, t: &[u8], ys: &[u32], n: usize) -> usize
     ensures { result ≡ first_of (same_at s.now xs.now i t.now ys.now) n }
 {
+    let position = fixup_cell(xs, i, 1);
     for j in 0..n {
-        if same_fixup(s, xs, i, t, ys, j) {
+        if same_behind(s, xs, i, position, t, ys, j) {
             return j;
         }
     }

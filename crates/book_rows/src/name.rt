@@ -31,7 +31,10 @@ const HEAD: usize = 16;
 pub fn compare(a: &[u8], b: &[u8]) -> Ordering
     ensures { order a.now b.now ≡ order_by result }
 {
-    for i in 0..a.len().min(b.len()).min(HEAD) {
+    for i in 0..a.len().min(HEAD) {
+        if b.len() <= i {
+            return Ordering::Greater;
+        }
         let x = a[i];
         let y = b[i];
         if x < y {

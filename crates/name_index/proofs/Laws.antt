@@ -4,18 +4,22 @@ use Prim.Native.Nat.{ℕ, suc, ◌+◌, ◌*◌, ◌%◌, ◌-◌, ◌<◌, ◌�
 use mathlib.Core.Path.{◌≡◌, refl, ap, sym, ◌∙◌}
 use mathlib.Core.Bool.{Bool, true, false, not}
 use mathlib.Core.List.{List, [], ◌∷◌}
+use mathlib.Core.Logic.{◌⊎◌, inl, inr}
 use native.Mathlib.Omega.{arith}
 use native.Mathlib.Numerals.{add-one}
-use lib.ListN.{length, drop, get_or, set, drop_of_length-le, length-set}
-use lib.Dec.{eqb}
-use lib.Seq.{drop-cons}
+use lib.ListN.{length, take, drop, get_or, set, drop_of_length-le, length-drop, length-set}
+use lib.Dec.{eqb, leb}
+use lib.Seq.{drop-cons, length-take-le}
 use borrow.Author.Rules.{rules}
-use borrow.Author.Tests.{eq-eqb, ne_eqb, le-leb, lt-leb}
+use borrow.Author.Tests.{eq-eqb, ne_eqb, le-leb, leb-true, lt-leb}
+use Rattle.std.specs.Prelude.{slice_range}
 use Rattle.format.specs.Lists.{pick}
 use Rattle.laws.specs.Rows.{symbol_at}
-use Rattle.row_parts.specs.Parts.{name_in}
+use Rattle.row_parts.specs.Parts.{name_in, part_of}
+use Rattle.symbol_rows.proofs.Symbols.{symbol-name}
 use Rattle.difference.specs.Module.{same_numbers}
 use Rattle.alike.specs.Looked.{first_of}
+use Rattle.alike.proofs.Names.{name-length}
 use Rattle.alike.proofs.Looked.{Looking, look-start, look-end, look-found, look-more}
 use Rattle.name_index.specs.Index.{found_in, hash_from, hash_of, index_from, indexed, name_at, named_at, noted}
 
@@ -105,7 +109,55 @@ pub named-is : (name text symbols : List ℕ) (j : ℕ) {other : List ℕ} → o
 unfolding named_at name_at
 named-is name text symbols j e f = f ∙ rw e
 
-pub ruleset searches = (rules, named-is, look-start, look-end, look-found, look-more)
+part-long : (s : List ℕ) (start n : ℕ) → (length (part_of s start n) ≡ 0 → ⊥) → length (part_of s start n) ≡ n
+unfolding part_of
+part-long s start n h = by-start (leb start (length s)) h
+  where
+    by-length : (b : Bool) → leb n (length s - start) ≡ b → (length (pick b (take n (drop start s)) []) ≡ 0 → ⊥) → length (pick b (take n (drop start s)) []) ≡ n
+    by-length true e g = length-take-le n (drop start s) (omega (arith, length-drop start s, leb-true n (length s - start) e))
+    by-length false e g = absurd (g refl)
+
+    by-start : (b : Bool) → (length (pick b (pick (leb n (length s - start)) (take n (drop start s)) []) []) ≡ 0 → ⊥) → length (pick b (pick (leb n (length s - start)) (take n (drop start s)) []) []) ≡ n
+    by-start true g = by-length (leb n (length s - start)) refl g
+    by-start false g = absurd (g refl)
+
+-- a name of another length
+pub lengths-apart : (name text symbols : List ℕ) (j : ℕ) {x n : ℕ} → x ≡ get_or symbols (5 * j + 1) 0 → n ≡ x → (length name ≡ n → ⊥) → (length name ≡ 0 → ⊥) → false ≡ named_at name text symbols j
+unfolding named_at name_at symbol_at
+lengths-apart name text symbols j {x} {n} e f g h =
+    let start = get_or symbols (5 * j) 0 in
+    let len = get_or symbols (5 * j + 1) 0 in
+    name-length name (part_of text start len) (λ k. g (k ∙ (part-long text start len (λ z. h (k ∙ z)) ∙ sym (f ∙ e))))
+
+-- a name by its bytes in the text, where they fit
+fits-part : (t : List ℕ) (start n : ℕ) → start + n ≤ length t → slice_range t start (start + n) ≡ part_of t start n
+unfolding part_of
+fits-part t start n h =
+    let z : start + n - start ≡ n = omega arith in
+    ap (λ (m : ℕ). take m (drop start t)) z ∙ sym (rw (le-leb start (length t) (omega arith), le-leb n (length t - start) (omega arith)))
+
+over-part : (t : List ℕ) (start n : ℕ) → length t < start + n → [] ≡ part_of t start n
+unfolding part_of
+over-part t start n h = by-start (leb start (length t)) refl
+  where
+    by-start : (b : Bool) → leb start (length t) ≡ b → [] ≡ pick b (pick (leb n (length t - start)) (take n (drop start t)) []) []
+    by-start true e = sym (ap (λ (c : Bool). pick c (take n (drop start t)) []) (lt-leb n (length t - start) (omega (arith, leb-true start (length t) e))))
+    by-start false e = refl
+
+module _ (name text symbols : List ℕ) (j : ℕ) {x start y n : ℕ} (a : x ≡ get_or symbols (5 * j + 0) 0) (b : start ≡ x) (c : y ≡ get_or symbols (5 * j + 1) 0) (d : n ≡ y) where
+  pub named-fits : start + n ≤ length text → {there : List ℕ} → there ≡ slice_range text start (start + n) → {r : Bool} → r ≡ same_numbers name there → r ≡ named_at name text symbols j
+  named-fits h e f = named-is name text symbols j (symbol-name symbols j text a b c d (e ∙ fits-part text start n h)) f
+
+  pub named-over : (start + n < start) ⊎ (length text < start + n) → {r : Bool} → r ≡ eqb (length name) 0 → r ≡ named_at name text symbols j
+  unfolding same_numbers
+  named-over (inl h) e = absurd (omega arith)
+  named-over (inr h) e = named-is name text symbols j (symbol-name symbols j text a b c d (over-part text start n h)) (e ∙ none name)
+    where
+      none : (l : List ℕ) → eqb (length l) 0 ≡ same_numbers l []
+      none [] = refl
+      none (x ∷ xs) = ne_eqb (length (x ∷ xs)) 0 (λ z. omega (arith, z))
+
+pub ruleset searches = (rules, lengths-apart, named-fits, named-over, look-start, look-end, look-found, look-more)
 
 -- `first_named`
 module _ (name text symbols : List ℕ) (n : ℕ) (index : List ℕ) {h x y : ℕ} (e : h ≡ hash_of name) (f : x ≡ get_or index h 0) (g : y ≡ x) where

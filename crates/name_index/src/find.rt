@@ -6,14 +6,23 @@ ghost use Rattle.name_index.specs.Index.{found_in, named_at};
 use crate::hash::hash;
 use alike::same_name;
 use cells::{at, wide};
-use symbol_rows::symbol_name;
+use row_parts::symbol_cell;
 
-// Whether symbol j has this name.
+// Whether symbol j has this name. Most names have another length, which the row tells before the text is asked; a name that does
+// not fit in the text is empty, whatever its row tells.
 #[inline(always)]
 fn named(name: &[u8], text: &[u8], symbols: &[u32], j: usize) -> bool
     ensures { result ≡ named_at name.now text.now symbols.now j }
 {
-    same_name(name, symbol_name(text, symbols, j))
+    let len = wide(symbol_cell(symbols, j, 1));
+    if name.len() != len && !name.is_empty() {
+        return false;
+    }
+    let start = wide(symbol_cell(symbols, j, 0));
+    match text.get(start..start + len) {
+        Some(there) => same_name(name, there),
+        None => name.is_empty(),
+    }
 }
 
 // The first of n symbols that has this name, or n, by looking at each.

@@ -18,6 +18,3 @@ returns-then-same_numbers c = search fixups
 
 pub returns : goal.returns
 returns c = search fixups
-
-pub returns-then-fixup_cell : goal.returns-then-fixup_cell
-returns-then-fixup_cell c = search fixups

@@ -5,6 +5,9 @@ use Rattle.book_rows.proofs.name.compare.Goals as goal
 pub loop-i-init : goal.loop-i-init
 loop-i-init c = search comparing
 
+pub returns-then-b-i : goal.returns-then-b-i
+returns-then-b-i c = search comparing
+
 pub returns-then-x-y : goal.returns-then-x-y
 returns-then-x-y c = search comparing
 
