@@ -1,13 +1,12 @@
 -- The laws of equal fixups.
 -- Assumes nothing.
-use Prim.Native.Nat.{ℕ, suc, ◌+◌, ◌*◌}
+use Prim.Native.Nat.{ℕ, ◌+◌, ◌*◌}
 use mathlib.Core.Path.{◌≡◌, refl, ap, sym, ◌∙◌}
 use mathlib.Core.Bool.{Bool, true, false}
 use mathlib.Core.List.{List, [], ◌∷◌, ◌++◌}
 use native.Mathlib.Omega.{arith}
 use lib.ListN.{length, get_or}
 use lib.Dec.{eqb}
-use lib.Pointwise.{pointwise}
 use borrow.Author.Rules.{rules}
 use borrow.Author.Tests.{eq-eqb, ne_eqb}
 use Rattle.format.specs.Lists.{pick}
@@ -18,18 +17,9 @@ use Rattle.fixup_rows.specs.declared.fixup.Fixup.{Fixup}
 use Rattle.difference.specs.Module.{same_numbers, says}
 use Rattle.difference.proofs.Lists.{same-eq}
 use Rattle.alike.specs.Parts.{numbers_of, refers_to}
-use Rattle.alike.proofs.Names.{not-same, same-each}
+use Rattle.alike.proofs.Names.{not-same}
 
--- `numbers`
-pub numbers-told : (x : Fixup) → x.home ∷ x.position ∷ x.size ∷ x.mode ∷ x.value ∷ x.number ∷ x.outside ∷ [] ≡ numbers_of (told_fixup x)
-unfolding numbers_of
-numbers-told x = refl
-
--- `same_numbers`
-pub numbers-same : (a b : List ℕ) (x y : Fixup) → a ≡ numbers_of (told_fixup x) → b ≡ numbers_of (told_fixup y) → {r : Bool} → r ≡ pointwise eqb a b → r ≡ same_numbers (numbers_of (told_fixup x)) (numbers_of (told_fixup y))
-numbers-same a b x y e f g = g ∙ (same-each a b ∙ rw (e, f))
-
--- numbers that differ in one
+-- `same_numbers`: numbers that differ in one
 module _ (x y : Fixup) where
   pub home-apart : (x.home ≡ y.home → ⊥) → false ≡ same_numbers (numbers_of (told_fixup x)) (numbers_of (told_fixup y))
   unfolding numbers_of
@@ -65,7 +55,7 @@ module _ (x y : Fixup) where
       last true = refl
       last false = refl
 
-pub ruleset numbers = (rules, numbers-told, numbers-same, home-apart, position-apart, size-apart, mode-apart, value-apart, number-apart, numbers-each)
+pub ruleset numbers = (rules, home-apart, position-apart, size-apart, mode-apart, value-apart, number-apart, numbers-each)
 
 -- two lists in two parts
 pick-with : (b c d e : Bool) → c ≡ pick d e false → pick b c false ≡ pick (pick b d false) e false
@@ -84,7 +74,7 @@ pub says-parts : (s t : List ℕ) (x y : the.Fixup) → same_numbers (says s x) 
 unfolding says numbers_of refers_to
 says-parts s t x y = in_parts (numbers_of x) (numbers_of y) (refers_to s x) (refers_to t y) refl
 
--- `same_behind`
+-- `same_placed`
 pub positions-apart : (s xs : List ℕ) (i : ℕ) (t ys : List ℕ) (j : ℕ) {p q : ℕ} → p ≡ get_or xs (9 * i + 1) 0 → q ≡ get_or ys (9 * j + 1) 0 → (q ≡ p → ⊥) → false ≡ same_numbers (says s (fixup_row xs i)) (says t (fixup_row ys j))
 unfolding numbers_of fixup_row fixup_from
 positions-apart s xs i t ys j e f h =
@@ -133,4 +123,4 @@ pub ruleset references = (rules, area-reference, name-reference)
 
 pub ruleset fixups = (rules, outside-same, same-numbers, other-numbers)
 
-pub ruleset behind = (rules, positions-apart)
+pub ruleset placed = (rules, positions-apart)

@@ -8,8 +8,7 @@ ghost use Rattle.alike.specs.Parts.{numbers_of, refers_to};
 use crate::name::same_name;
 use fixup_rows::{Fixup, fixup_at, fixup_name};
 
-// Whether all is equal but what they refer to. Number by number, since most fixups differ in the first two, and `==` of two
-// arrays looks at all seven.
+// Whether all is equal but what they refer to, number by number: the first that differs ends it.
 #[inline(always)]
 fn same_numbers(x: Fixup, y: Fixup) -> bool
     ensures { result ≡ same_numbers (numbers_of (told_fixup x)) (numbers_of (told_fixup y)) }

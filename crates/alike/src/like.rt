@@ -11,7 +11,7 @@ use row_parts::fixup_cell;
 // Whether fixup i, which has this position, says the same as fixup j. Most have another, which is compared before the rest of
 // their rows is read.
 #[inline(always)]
-fn same_behind(
+fn same_placed(
     s: &[u8],
     xs: &[u32],
     i: usize,
@@ -35,7 +35,7 @@ fn first_like(s: &[u8], xs: &[u32], i: usize, t: &[u8], ys: &[u32], n: usize) ->
 {
     let position = fixup_cell(xs, i, 1);
     for j in 0..n {
-        if same_behind(s, xs, i, position, t, ys, j) {
+        if same_placed(s, xs, i, position, t, ys, j) {
             return j;
         }
     }

@@ -2,7 +2,7 @@
 -- Assumes nothing.
 use Prim.Native.Nat.{ℕ, suc, ◌+◌, ◌*◌, ◌%◌, ◌-◌, ◌<◌, ◌≤◌}
 use mathlib.Core.Path.{◌≡◌, refl, ap, sym, ◌∙◌}
-use mathlib.Core.Bool.{Bool, true, false, not}
+use mathlib.Core.Bool.{Bool, true, false}
 use mathlib.Core.List.{List, [], ◌∷◌}
 use mathlib.Core.Logic.{◌⊎◌, inl, inr}
 use native.Mathlib.Omega.{arith}
@@ -20,7 +20,7 @@ use Rattle.symbol_rows.proofs.Symbols.{symbol-name}
 use Rattle.difference.specs.Module.{same_numbers}
 use Rattle.alike.specs.Looked.{first_of}
 use Rattle.alike.proofs.Names.{name-length}
-use Rattle.alike.proofs.Looked.{Looking, look-start, look-end, look-found, look-more}
+use Rattle.alike.proofs.Looked.{look-start, look-end, look-found, look-more}
 use Rattle.name_index.specs.Index.{found_in, hash_from, hash_of, index_from, indexed, name_at, named_at, noted}
 
 -- `hash`
