@@ -67,8 +67,9 @@ fn add(s: Sink, out: &mut [u8], bytes: &[u8]) -> Sink
     }
 }
 
-// Adds bytes where none wait, or writes them at once where they are more than the slice holds.
-#[inline(never)]
+// Adds bytes where none wait, or writes them at once where they are more than the slice holds. Inlined too: bytes that a call takes
+// by their place are stored there first, and read back on every way.
+#[inline(always)]
 fn add_first(s: Sink, out: &mut [u8], bytes: &[u8]) -> Sink {
     let n = bytes.len();
     let t = Sink { used: n, ..s };
