@@ -157,7 +157,7 @@ module _ (name text symbols : List ℕ) (j : ℕ) {x start y n : ℕ} (a : x ≡
       none [] = refl
       none (x ∷ xs) = ne_eqb (length (x ∷ xs)) 0 (λ z. omega (arith, z))
 
-pub ruleset searches = (rules, lengths-apart, named-fits, named-over, look-start, look-end, look-found, look-more)
+pub ruleset searches = (rules, lengths-apart, named-fits, named-over, named-is, look-start, look-end, look-found, look-more)
 
 -- `first_named`
 module _ (name text symbols : List ℕ) (n : ℕ) (index : List ℕ) {h x y : ℕ} (e : h ≡ hash_of name) (f : x ≡ get_or index h 0) (g : y ≡ x) where

@@ -5,14 +5,14 @@ ghost use Rattle.kinds.specs.Kinds.{kinds_in};
 
 use host::Host;
 use kinds::Kinds;
-use report_lines::{Form, Image, Own, Tally};
+use report_lines::{Image, Own, Tally, ToldForm};
 use sink::{Buffer, Sink};
 use totals::Totals;
 
 // A row for each module, with its positions by kind.
 struct Rows;
 
-impl Form for Rows {
+impl ToldForm for Rows {
     type Positions = Kinds;
 
     ghost told_positions = { kinds_in };

@@ -23,6 +23,24 @@ pub struct Own {
 pub trait Form {
     type Positions: Copy;
 
+    // What may be told of n positions, by their masks and the marks of those that a line writes: anything, where a form says no more.
+    ghost may_tell: { List ℕ → List ℕ → ℕ → Self.Positions → Type 0 } = { λ masks map n told. Unit {0} };
+
+    // What is told of them.
+    fn positions(masks: &Image, map: &Image, n: usize) -> Self::Positions
+        ensures { may_tell masks.now map.now n result };
+
+    // A module that is refused.
+    fn refused(s: Sink, out: &mut Buffer, name: &[u8], number: usize, place: usize) -> Sink;
+
+    // A module that is read.
+    fn read(s: Sink, out: &mut Buffer, name: &[u8], own: Own, positions: Self::Positions) -> Sink;
+}
+
+// A form that says what it tells of positions.
+pub trait ToldForm {
+    type Positions: Copy;
+
     // What is told of n positions, by their masks and the marks of those that a line writes.
     ghost told_positions: { List ℕ → List ℕ → ℕ → Self.Positions };
 
@@ -37,10 +55,32 @@ pub trait Form {
     fn read(s: Sink, out: &mut Buffer, name: &[u8], own: Own, positions: Self::Positions) -> Sink;
 }
 
+// Such a form tells that and nothing else.
+impl<F: ToldForm> Form for F {
+    type Positions = F::Positions;
+
+    ghost may_tell = { λ masks map n told. told ≡ F.told_positions masks map n };
+
+    #[inline(always)]
+    fn positions(masks: &Image, map: &Image, n: usize) -> F::Positions {
+        <F as ToldForm>::positions(masks, map, n)
+    }
+
+    #[inline(always)]
+    fn refused(s: Sink, out: &mut Buffer, name: &[u8], number: usize, place: usize) -> Sink {
+        <F as ToldForm>::refused(s, out, name, number, place)
+    }
+
+    #[inline(always)]
+    fn read(s: Sink, out: &mut Buffer, name: &[u8], own: Own, positions: F::Positions) -> Sink {
+        <F as ToldForm>::read(s, out, name, own, positions)
+    }
+}
+
 // A line for each module.
 pub struct Lines;
 
-impl Form for Lines {
+impl ToldForm for Lines {
     type Positions = ();
 
     ghost told_positions = { λ masks map n. tt };
@@ -53,5 +93,70 @@ impl Form for Lines {
 
     fn read(s: Sink, out: &mut Buffer, name: &[u8], own: Own, _positions: ()) -> Sink {
         read_line(s, out, name, own.totals, own.verdict, own.counted)
+    }
+}
+
+#[cfg(test)]
+mod tests {
+    use super::*;
+
+    // A form that says nothing of what it tells, as one in a crate above may.
+    struct First;
+
+    impl Form for First {
+        type Positions = [u8; 2];
+
+        fn positions(masks: &Image, map: &Image, _n: usize) -> [u8; 2] {
+            [masks[0], map[0]]
+        }
+
+        fn refused(
+            s: Sink,
+            _out: &mut Buffer,
+            _name: &[u8],
+            _number: usize,
+            _place: usize,
+        ) -> Sink {
+            s
+        }
+
+        fn read(s: Sink, _out: &mut Buffer, _name: &[u8], _own: Own, _positions: [u8; 2]) -> Sink {
+            s
+        }
+    }
+
+    // A form that says what it tells.
+    struct Count;
+
+    impl ToldForm for Count {
+        type Positions = usize;
+
+        ghost told_positions = { λ masks map n. n };
+
+        fn positions(_masks: &Image, _map: &Image, n: usize) -> usize {
+            n
+        }
+
+        fn refused(
+            s: Sink,
+            _out: &mut Buffer,
+            _name: &[u8],
+            _number: usize,
+            _place: usize,
+        ) -> Sink {
+            s
+        }
+
+        fn read(s: Sink, _out: &mut Buffer, _name: &[u8], _own: Own, _positions: usize) -> Sink {
+            s
+        }
+    }
+
+    #[test]
+    fn positions_of_both(rt: HostRuntime) {
+        let masks = [31; IMAGE_ROOM];
+        let map = [1; IMAGE_ROOM];
+        assert_eq!(rt; <First as Form>::positions(&masks, &map, 3), [31, 1]);
+        assert_eq!(rt; <Count as Form>::positions(&masks, &map, 3), 3);
     }
 }

@@ -7,7 +7,7 @@ mod module;
 mod words;
 
 pub use file::report_file;
-pub use form::{Form, Image, Lines, Own};
+pub use form::{Form, Image, Lines, Own, ToldForm};
 use sink::Sink;
 use totals::Totals;
 pub use words::{over, read_line, refused_line, totals_lines};

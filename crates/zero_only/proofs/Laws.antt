@@ -15,17 +15,29 @@ use Rattle.numbers.specs.declared.Read.{Read}
 use Rattle.zero_only.specs.Zero.{zero_only, zero_or}
 
 module _ {H : Type 0} {i : Result (Read ℕ) H} (other : H) where
-  pub zero-1 : {h : H} → i ≡ Err h → i ≡ zero_or i other
+  pub zero_or-1 : {h : H} → i ≡ Err h → i ≡ zero_or i other
+  zero_or-1 g = rw g
+
+  module _ {r : Read ℕ} (g : i ≡ Ok r) where
+    pub zero_or-2 : r.value ≡ 0 → Ok r ≡ zero_or i other
+    zero_or-2 h = rw (g, eq-eqb r.value 0 h)
+
+    pub zero_or-3 : (r.value ≡ 0 → ⊥) → Err other ≡ zero_or i other
+    zero_or-3 h = rw (g, ne_eqb r.value 0 h)
+
+-- the same of a reader's answer as the definition tells it, with reason 4 at a place for another number
+module _ {i : Result (Read ℕ) Halt} (at : ℕ) where
+  pub zero-1 : {h : Halt} → i ≡ Err h → told (Err h) ≡ zero_only (told i) at
   zero-1 g = rw g
 
   module _ {r : Read ℕ} (g : i ≡ Ok r) where
-    pub zero-2 : r.value ≡ 0 → Ok r ≡ zero_or i other
+    pub zero-2 : r.value ≡ 0 → is r.value r.next ≡ zero_only (told i) at
     zero-2 h = rw (g, eq-eqb r.value 0 h)
 
-    pub zero-3 : (r.value ≡ 0 → ⊥) → Err other ≡ zero_or i other
+    pub zero-3 : (r.value ≡ 0 → ⊥) → isnt 4 at ≡ zero_only (told i) at
     zero-3 h = rw (g, ne_eqb r.value 0 h)
 
-pub ruleset zeros = (rules, zero-1, zero-2, zero-3)
+pub ruleset zeros = (rules, zero_or-1, zero_or-2, zero_or-3, zero-1, zero-2, zero-3)
 
 told-picked : (b : Bool) (r : Read ℕ) (other : Halt) → told (pick b (Ok r) (Err other)) ≡ pick b (is r.value r.next) (isnt (code other.reason) other.at)
 told-picked true r other = refl

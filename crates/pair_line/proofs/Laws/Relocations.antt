@@ -27,18 +27,20 @@ use Rattle.pair_line.specs.Usual.{Zeroed}
 use Rattle.pair_line.specs.Pairs.{sized, fragments_in, numbered, Relocations}
 
 -- `zero_index`
-pub zero_is : (radix : ℕ) (big : Bool) (s : List ℕ) (at : ℕ) (i : Result (Read ℕ) Halt) {r : Result (Read ℕ) Halt} (other : Halt) → told i ≡ index radix big s at → r ≡ zero_or i other → code other.reason ≡ 4 → other.at ≡ at → told r ≡ zero_index radix big s at
+pub zero_is : (radix : ℕ) (big : Bool) (s : List ℕ) (at : ℕ) {m n : Got ℕ} → m ≡ index radix big s at → n ≡ zero_only m at → n ≡ zero_index radix big s at
 unfolding zero_index
-zero_is radix big s at i {r} other e g p q =
-    let h : told r ≡ zero_only (told i) at = rw g (zero-told i other at p q) in
-    h ∙ rw e
+zero_is radix big s at e g = g ∙ rw e
+
+-- the same of what is read, with the halt that is given for another number
+pub zero_or-is : (radix : ℕ) (big : Bool) (s : List ℕ) (at : ℕ) (i : Result (Read ℕ) Halt) {r : Result (Read ℕ) Halt} (other : Halt) → told i ≡ index radix big s at → r ≡ zero_or i other → code other.reason ≡ 4 → other.at ≡ at → told r ≡ zero_index radix big s at
+zero_or-is radix big s at i other e g p q = zero_is radix big s at e (rw g (zero-told i other at p q))
 
 -- the same of an index that was read
 pub zero-2 : (radix : ℕ) (big : Bool) (s : List ℕ) (at : ℕ) {i : Result (Read ℕ) Halt} → told i ≡ index radix big s at → {r : Read ℕ} → i ≡ Ok r → r.value ≡ 0 → is r.value r.next ≡ zero_index radix big s at
 unfolding zero_index
 zero-2 radix big s at e {r} g h = rw (← e, g, eq-eqb r.value 0 h)
 
-pub ruleset zeros = (rules, zero_is)
+pub ruleset zeros = (rules, zero_is, zero_or-is)
 
 -- `area_part`
 pub part-usual : (f : Form) (s : List ℕ) {r : Bool} → Zeroed f.radix s r → r ≡ true → {x : Got ℕ} → x ≡ index f.radix f.big s 8 → x ≡ area_part f s 0
